@@ -1,0 +1,130 @@
+-- The entries of the two directories: `DV` for a subblock, `A1` for an attachment. An entry is read from the
+-- front of a byte list.
+use Rattle.std.specs.Prelude.{◌≡◌, ℕ, zero, suc, ◌+◌, ◌*◌, ℤ, pos, List, [], ◌∷◌, drop, length, codes, ◌&&◌, ◌==◌, nat_le, ◌≤◌, ◌++◌, Option, Some, bytes_eq, FitsSigned, flat_map}
+use Rattle.std.specs.Int.{w32, w64}
+use Rattle.std.specs.List.{AllByRecursion}
+use Rattle.czi_format.specs.Bytes.{bytes_at, byte_at, i32_at, i64_at, i32_bytes, i64_bytes}
+use Rattle.czi_format.specs.Partial.{◌>>=◌, natural, given}
+
+-- one dimension of a subblock: its name, where it starts, its size, and the size as stored (0 reads as size)
+pub record Dim : Type 0 where
+  pub name : List ℕ
+  pub start : ℤ
+  pub size : ℤ
+  pub coord : List ℕ
+  pub stored : ℤ
+
+pub record EntryInfo : Type 0 where
+  pub pixel : ℤ
+  pub compression : ℤ
+  pub pyramid : ℕ
+  pub spare : List ℕ
+  pub dims : List Dim
+
+-- a DV entry: what it says of a subblock, and the position of the subblock's segment
+pub record Entry : Type 0 where
+  pub info : EntryInfo
+  pub position : ℤ
+
+unfoldable pub dim : List ℕ → Dim
+dim bytes = record {
+  name = bytes_at bytes 0 4;
+  start = i32_at bytes 4;
+  size = i32_at bytes 8;
+  coord = bytes_at bytes 12 4;
+  stored = i32_at bytes 16;
+}
+
+-- the first n dimension records
+unfoldable pub dims : ℕ → List ℕ → List Dim
+dims zero bytes = []
+dims (suc n) bytes = dim bytes ∷ dims n (drop 20 bytes)
+
+-- the DV entry at the front of the bytes
+unfoldable pub entry : List ℕ → Option Entry
+entry bytes = do
+  count ← natural (i32_at bytes 28)
+  part ← natural (i32_at bytes 14)
+  given (bytes_eq (bytes_at bytes 0 2) (codes "DV") && (part == 0) && nat_le 1 count && nat_le count 40 && nat_le (32 + 20 * count) (length bytes))
+      (record {
+        info = record {
+          pixel = i32_at bytes 2;
+          compression = i32_at bytes 18;
+          pyramid = byte_at bytes 22;
+          spare = bytes_at bytes 23 5;
+          dims = dims count (drop 32 bytes);
+        };
+        position = i64_at bytes 6;
+      })
+
+-- the length of an entry
+abbrev pub entry_len : Entry → ℕ
+entry_len e = 32 + 20 * length e.info.dims
+
+-- an entry, written
+abbrev pub dim_bytes : Dim → List ℕ
+dim_bytes d = d.name ++ (i32_bytes d.start ++ (i32_bytes d.size ++ (d.coord ++ i32_bytes d.stored)))
+
+abbrev pub entry_bytes : Entry → List ℕ
+entry_bytes e = codes "DV" ++ (i32_bytes e.info.pixel ++ (i64_bytes e.position ++ (i32_bytes (pos 0) ++ (i32_bytes e.info.compression
+    ++ (e.info.pyramid ∷ e.info.spare ++ (i32_bytes (pos (length e.info.dims)) ++ flat_map dim_bytes e.info.dims))))))
+
+-- what can be written: each field has its length and range
+pub record IsDim (d : Dim) : Type 0 where
+  pub name : length d.name ≡ 4
+  pub start : FitsSigned w32 d.start
+  pub size : FitsSigned w32 d.size
+  pub coord : length d.coord ≡ 4
+  pub stored : FitsSigned w32 d.stored
+
+pub record IsEntryInfo (info : EntryInfo) : Type 0 where
+  pub pixel : FitsSigned w32 info.pixel
+  pub compression : FitsSigned w32 info.compression
+  pub spare : length info.spare ≡ 5
+  pub some : 1 ≤ length info.dims
+  pub few : length info.dims ≤ 40
+  pub dims : AllByRecursion IsDim info.dims
+
+pub record IsEntry (e : Entry) : Type 0 where
+  pub info : IsEntryInfo e.info
+  pub position : FitsSigned w64 e.position
+
+-- these bytes are the DV entry of a subblock with its segment at this position
+pub record EntryBytes (info : EntryInfo) (position : ℤ) (bytes : List ℕ) : Type 0 where
+  pub reads : entry bytes ≡ Some (record { info = info; position = position })
+  pub whole : length bytes ≡ 32 + 20 * length info.dims
+
+pub record AttInfo : Type 0 where
+  pub guid : List ℕ
+  pub kind : List ℕ
+  pub name : List ℕ
+
+-- each field has its length
+pub record IsAttInfo (info : AttInfo) : Type 0 where
+  pub guid : length info.guid ≡ 16
+  pub kind : length info.kind ≡ 8
+  pub name : length info.name ≡ 80
+
+-- an A1 entry: what it says of an attachment, and the position of the attachment's segment
+pub record A1 : Type 0 where
+  pub info : AttInfo
+  pub position : ℤ
+
+-- the A1 entry at the front of the bytes; its reserved bytes and FilePart aren't looked at
+unfoldable pub a1 : List ℕ → Option A1
+a1 bytes = given (bytes_eq (bytes_at bytes 0 2) (codes "A1") && nat_le 128 (length bytes)) (record {
+  info = record {
+    guid = bytes_at bytes 24 16;
+    kind = bytes_at bytes 40 8;
+    name = bytes_at bytes 48 80;
+  };
+  position = i64_at bytes 12;
+})
+
+abbrev pub a1_len : A1 → ℕ
+a1_len a = 128
+
+-- these bytes are an A1 entry of an attachment with its segment at this position
+pub record A1Bytes (info : AttInfo) (position : ℤ) (bytes : List ℕ) : Type 0 where
+  pub reads : a1 bytes ≡ Some (record { info = info; position = position })
+  pub whole : length bytes ≡ 128
