@@ -1,0 +1,8 @@
+//! Items of a CZI document: dimensions, directory entries, attachments, and lists of bytes.
+#![tactic(auto)]
+
+mod dimensions;
+mod items;
+
+pub use dimensions::{Dim, Dims, ItemFault};
+pub use items::{AttInfo, Bytes, EntryInfo};
