@@ -3,6 +3,8 @@
 
 mod dimensions;
 mod items;
+mod writing;
 
 pub use dimensions::{Dim, Dims, ItemFault};
 pub use items::{AttInfo, Bytes, EntryInfo};
+pub use writing::write_dims;
