@@ -3,6 +3,8 @@
 ghost use Rattle.std.specs.Prelude.{◌≡◌, ℕ, ◌<◌, ◌≤◌, ◌↔◌, length, vec_len, IfOk, if◌then◌else◌};
 ghost use Rattle.czi_format.specs.Partial.{is_zero};
 
+use std::alloc::AllocError;
+
 /// One dimension record of a subblock (DimensionEntryDV1).
 #[derive(Clone, Copy, Debug, PartialEq, Eq)]
 pub struct Dim {
@@ -63,6 +65,14 @@ impl Dims {
         if list.len() > 40 {
             return Err(ItemFault::ManyDims(list.len()));
         }
+        Ok(Dims { list })
+    }
+
+    /// The same dimensions once more, or want of memory.
+    pub fn try_copy(&self) -> Result<Dims, AllocError>
+        ensures { IfOk result (λ d. records d ≡ records self.now) }
+    {
+        let list = self.list.clone()?;
         Ok(Dims { list })
     }
 

@@ -1,8 +1,9 @@
 //! What the two directories say of subblocks and attachments, and lists of bytes.
 
-ghost use Rattle.std.specs.Prelude.{◌≡◌};
+ghost use Rattle.std.specs.Prelude.{◌≡◌, IfOk};
 
 use crate::dimensions::Dims;
+use std::alloc::AllocError;
 
 /// What a directory entry (DirectoryEntryDV) says of a subblock, its position aside.
 #[derive(Debug, PartialEq, Eq, Drop)]
@@ -17,6 +18,24 @@ pub struct EntryInfo {
     pub spare: [u8; 5],
     /// The dimensions.
     pub dims: Dims,
+}
+
+impl EntryInfo {
+    ghost use Rattle.czi_doc.specs.View.{info_of};
+
+    /// The same values once more, or want of memory.
+    pub fn try_copy(&self) -> Result<EntryInfo, AllocError>
+        ensures { IfOk result (λ i. info_of i ≡ info_of self.now) }
+    {
+        let dims = self.dims.try_copy()?;
+        Ok(EntryInfo {
+            pixel: self.pixel,
+            compression: self.compression,
+            pyramid: self.pyramid,
+            spare: self.spare,
+            dims,
+        })
+    }
 }
 
 /// What an attachment directory entry (AttachmentEntryA1) says of an attachment, its position aside.

@@ -3,8 +3,13 @@
 
 mod dimensions;
 mod items;
+mod keys;
 mod writing;
 
 pub use dimensions::{Dim, Dims, ItemFault};
 pub use items::{AttInfo, Bytes, EntryInfo};
+pub use keys::{Key, equal_keys};
 pub use writing::write_dims;
+
+#[cfg(test)]
+mod tests;
