@@ -1,27 +1,27 @@
 -- The clauses of a device, of each call of a rig in memory.
-use Rattle.std.proofs.Common.{◌≡◌, ◌⊎◌, inl, inr, ⊎_elim, ℕ, ◌+◌, ◌<◌, ◌≤◌, ◌^◌, Bool, true, false, cond, Some, Ok, Err, Result, List, [], ◌++◌, length, get_or, take, drop, refl, sym, ◌∙◌, ap, subst, arith}
+use Rattle.std.proofs.Common.{◌≡◌, ◌⊎◌, inl, inr, ⊎_elim, ℕ, ◌+◌, ◌<◌, ◌≤◌, ◌^◌, Bool, true, false, Some, Ok, Err, Result, List, [], ◌++◌, length, get_or, take, drop, refl, sym, ◌∙◌, ap, subst, arith}
 use Rattle.std.specs.Prelude.{is_err, option_map, OnOk, OnErr, IfOk}
 use Rattle.std.specs.Option.{ForSome}
 use Rattle.std.proofs.lemmas.Bool.{false≢true}
 use Rattle.std.proofs.lemmas.Option.{same_Some}
-use Rattle.std.proofs.lemmas.List.{append-nil, take_all}
+use Rattle.std.proofs.lemmas.List.{append-nil}
 use Rattle.std.proofs.Math.Seq.{take-nil}
 use Rattle.czi_rig.specs.declared.file.File.{File}
 use Rattle.czi_rig.specs.declared.file.File.TheVariants.{Image, Journal}
 use Rattle.czi_rig.specs.declared.file.Failed.{Failed}
 use Rattle.czi_rig.specs.declared.call.Call.{Call}
-use Rattle.czi_rig.specs.declared.call.Call.TheVariants.{Len, Read, Write, Cut, Sync, Say}
+use Rattle.czi_rig.specs.declared.call.Call.TheVariants.{Write, Cut, Sync, Say}
 use Rattle.czi_rig.specs.declared.log.Event.{Event}
 use Rattle.czi_rig.specs.Disk.{Disk, Durable, Left, Torn, TornCut, begun_write, begun_cut, overwritten, settled, at_rest}
-use Rattle.czi_rig.specs.State.{State, Instant, known, seen_of, durable_of, other, MayLeave, MayLeaveSaying, LeavesOther, SameAll, SameFiles, Becomes, MayHaveBegun, SaysSome}
-use Rattle.czi_rig.specs.Passes.{Passes, Rose, HasCause}
+use Rattle.czi_rig.specs.State.{State, Instant, known, seen_of, durable_of, MayLeave, MayLeaveSaying, LeavesOther, SameAll, SameFiles, Becomes, MayHaveBegun, SaysSome}
+use Rattle.czi_rig.specs.Passes.{Passes, HasCause}
 use Rattle.czi_rig.specs.Moments.{Leaves}
-use Rattle.czi_rig.specs.Told.{Told, Accounts}
+use Rattle.czi_rig.specs.Told.{Told}
 use Rattle.czi_rig.specs.Replay.{History, Faults, state_of, LeftSaying, LeftSince, disk_at, disk_now, said_now, saying, done, landed, cut_to, put, was_cut, synced, replay, IsSound, IsKept}
 use Rattle.czi_rig.specs.Laws.{sound_now}
 use Rattle.czi_rig.proofs.Effects.{sound_at_rest, torn_over, torn_take, landed_within, landed_all, done_within, cut_above, cut_below, sound_put, sound_cut, sound_sync, synced_less}
-use Rattle.czi_rig.proofs.Pushed.{NoFewer, passes_same, passes_push}
-use Rattle.czi_rig.proofs.Steps.{Step, FileStep, Came, On, Added, came, known_is, seen_is, durable_is, on_len, on_read, on_write, on_cut, on_sync, leaves_other, has_cause, passes_begun, passes_less, disk_added, said_added, sound_added}
+use Rattle.czi_rig.proofs.Pushed.{passes_same, passes_push}
+use Rattle.czi_rig.proofs.Steps.{Step, FileStep, Came, On, came, known_is, seen_is, durable_is, on_write, on_cut, on_sync, leaves_other, has_cause, passes_begun, passes_less, disk_added, said_added, sound_added}
 
 becomes : (h g : History) (a b : Faults) (f : File) (R : List ℕ → List ℕ → Type 0) → R (disk_now h f).seen (disk_now g f).seen → Becomes R (seen_of (state_of h a) f) (seen_of (state_of g b) f)
 becomes h g a b f R r = λ old is. ((disk_now g f).seen, seen_is g b f, subst (λ (s : List ℕ). R s (disk_now g f).seen) (same_Some _ old (sym (seen_is h a f) ∙ is)) r)
@@ -86,7 +86,7 @@ pub writes : (f : File) (at : ℕ) (bytes : List ℕ) (result : Result (Unit {0}
 writes f at bytes result old new a b t u now k within small b8 s =
     let fits : at ≤ length (disk_now old f).seen = within _ (seen_is old a f) in
     let c : Came f (is_err result) old new now (put at bytes (is_err result) (disk_now old f)) = came f _ bytes (is_err result) old new a b t u now _ _ s (on_write f at (length bytes) bytes (is_err result) (disk_now old f)) refl
-        (sound_put at bytes (is_err result) (disk_now old f) fits small b8 (sound_now old f (k.sound f))) k.sound in
+    (sound_put at bytes (is_err result) (disk_now old f) fits small b8 (sound_now old f (k.sound f))) k.sound in
     record {
       came = c;
       begins = begins f _ bytes result old new a b t u now _ _ (begun_write at (length bytes)) (overwritten at bytes) (Torn at (length bytes)) refl s c refl
@@ -106,7 +106,7 @@ pub cuts : (f : File) (len : ℕ) (result : Result (Unit {0}) Failed) (old new :
 cuts f len result old new a b t u now k within s =
     let fits : len ≤ length (disk_now old f).seen = within _ (seen_is old a f) in
     let c : Came f (is_err result) old new now (was_cut len (is_err result) (disk_now old f)) = came f _ [] (is_err result) old new a b t u now _ _ s (on_cut f len (is_err result) (disk_now old f)) refl
-        (sound_cut len (is_err result) (disk_now old f) fits (sound_now old f (k.sound f))) k.sound in
+    (sound_cut len (is_err result) (disk_now old f) fits (sound_now old f (k.sound f))) k.sound in
     record {
       came = c;
       begins = begins f _ [] result old new a b t u now _ _ (begun_cut len) (take len) (TornCut len) refl s c refl
@@ -183,7 +183,7 @@ pub syncs : (f : File) (result : Result (Unit {0}) Failed) (old new : History) (
 syncs f result old new a b t u now k s =
     let sound : IsSound (disk_now old f) = sound_now old f (k.sound f) in
     let c : Came f (is_err result) old new now (synced (is_err result) (disk_now old f)) = came f _ [] (is_err result) old new a b t u now _ _ s (on_sync f (is_err result) (disk_now old f)) refl
-        (sound_sync (is_err result) (disk_now old f) sound) k.sound in
+    (sound_sync (is_err result) (disk_now old f) sound) k.sound in
     record {
       came = c;
       same = seen_is new b f ∙ ap Some (⊎_elim (λ w. ap (λ (d : Disk). d.seen) w.1) (λ m. ap (λ (d : Disk). d.seen) m) c.here) ∙ sym (seen_is old a f);

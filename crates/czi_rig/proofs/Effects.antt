@@ -1,5 +1,5 @@
 -- What a write, a cut and a sync of a rig in memory make of a file.
-use Rattle.std.proofs.Common.{◌≡◌, ◌⊎◌, inl, inr, ⊎_elim, ℕ, ◌+◌, ◌-◌, ◌<◌, ◌≤◌, ◌^◌, ◌/◌, max, Bool, true, false, cond, List, ◌++◌, length, get_or, take, drop, refl, sym, ◌∙◌, ap, subst, arith}
+use Rattle.std.proofs.Common.{◌≡◌, inl, inr, ⊎_elim, ℕ, ◌+◌, ◌-◌, ◌<◌, ◌≤◌, ◌^◌, max, Bool, true, false, List, length, get_or, take, drop, refl, sym, ◌∙◌, subst, arith}
 use Rattle.std.specs.Prelude.{All}
 use Rattle.std.proofs.lemmas.List.{places, get_or_past, get_or_default, take_all, ext_get_or, length-drop, get_or-drop}
 use Rattle.std.proofs.lemmas.Bool.{cases_lt}
@@ -24,10 +24,10 @@ over_mid at bytes seen k fits from to = grind (arith, places)
 pub record Bytes (xs : List ℕ) : Type 0 where
   pub each : (k : ℕ) → get_or xs k 0 < 2 ^ 8
 
-to_all : (xs : List ℕ) → Bytes xs → All (λ b. b < 2 ^ 8) xs
+pub to_all : (xs : List ℕ) → Bytes xs → All (λ b. b < 2 ^ 8) xs
 to_all xs b = λ k d lt. subst (λ (x : ℕ). x < 2 ^ 8) (get_or_default xs k 0 d lt) (b.each k)
 
-from_all : (xs : List ℕ) → All (λ b. b < 2 ^ 8) xs → Bytes xs
+pub from_all : (xs : List ℕ) → All (λ b. b < 2 ^ 8) xs → Bytes xs
 from_all xs a = record { each = λ k. ⊎_elim (λ lt. a k 0 lt) (λ past. subst (λ (x : ℕ). x < 2 ^ 8) (sym (get_or_past xs k 0 past)) (omega arith)) (cases_lt k (length xs)) }
 
 take_short : (n : ℕ) (xs : List ℕ) → length (take n xs) ≤ n

@@ -1,10 +1,9 @@
 -- What a call of a rig in memory came to, and what it keeps.
-use Rattle.std.proofs.Common.{◌≡◌, ◌⊎◌, inl, inr, ⊎_elim, ℕ, ◌+◌, ◌-◌, ◌<◌, ◌≤◌, ◌^◌, min, Bool, true, false, cond, Option, Some, Ok, Err, Result, List, [], ◌∷◌, ◌++◌, length, map, take, drop, refl, sym, ◌∙◌, ap, subst, arith}
-use Rattle.std.specs.Prelude.{is_err, option_map, OnErr, IsTrue, Contains}
+use Rattle.std.proofs.Common.{◌≡◌, ◌⊎◌, inl, inr, ⊎_elim, ℕ, ◌-◌, ◌<◌, ◌≤◌, ◌^◌, Bool, true, false, cond, Some, Ok, Err, Result, List, [], ◌∷◌, ◌++◌, length, map, refl, sym, ◌∙◌, ap, subst, arith}
+use Rattle.std.specs.Prelude.{is_err, option_map, Contains}
 use Rattle.std.specs.Option.{ForSome}
 use Rattle.std.proofs.lemmas.List.{append-nil, map_push, length-map}
 use Rattle.std.proofs.lemmas.Bool.{false≢true}
-use Rattle.std.proofs.lemmas.Option.{same_Some}
 use Rattle.czi_rig.specs.declared.file.File.{File}
 use Rattle.czi_rig.specs.declared.file.File.TheVariants.{Image, Journal}
 use Rattle.czi_rig.specs.declared.file.Failed.{Failed}
@@ -13,7 +12,7 @@ use Rattle.czi_rig.specs.declared.call.Call.TheVariants.{Len, Read, Write, Cut, 
 use Rattle.czi_rig.specs.declared.log.Event.{Event}
 use Rattle.czi_rig.specs.declared.log.Log.{Log}
 use Rattle.czi_rig.specs.declared.content.Content.{Content}
-use Rattle.czi_rig.specs.Disk.{Disk, Durable, Left}
+use Rattle.czi_rig.specs.Disk.{Disk, Left}
 use Rattle.czi_rig.specs.State.{State, Instant, known, seen_of, durable_of, faults_of, other, MayLeave, LeavesOther}
 use Rattle.czi_rig.specs.Passes.{Passes, Rose, HasCause}
 use Rattle.czi_rig.specs.Moments.{Leaves}
@@ -302,8 +301,8 @@ pub passes_less : (f : File) (call : Call) (bytes : List ℕ) (failed : Bool) (o
 passes_less f call bytes failed old new a b t u now make made none s c less =
     passes_file call bytes failed old new a b (MayLeave (state_of old a)) none (⊎_elim (λ w. inl w.1) (λ w. inr w.0) s.step.ended) s.step.no_fewer
     (λ i j o l. may_leave_from_leaves old a i j o (leaves_less f old new (λ left m. ⊎_elim
-      (λ w. subst (λ (d : Disk). Left d.durable left) w.1 m)
-      (λ w. less left (subst (λ (d : Disk). Left d.durable left) w m)) c.here) c.rest c.said i j o l))
+    (λ w. subst (λ (d : Disk). Left d.durable left) w.1 m)
+    (λ w. less left (subst (λ (d : Disk). Left d.durable left) w m)) c.here) c.rest c.said i j o l))
 
 -- a condition on what reads give of a file
 pub in_file : (h : History) (a : Faults) (f : File) (P : List ℕ → Type 0) → ForSome (seen_of (state_of h a) f) P → P (disk_now h f).seen

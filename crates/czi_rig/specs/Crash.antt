@@ -64,7 +64,6 @@ disk_in r = record {
   durable = record { synced = r.synced.items; written = reverse r.written.items; least = r.least; greatest = r.greatest };
 }
 
-
 -- one byte stands at each place of a range, as far as it lies in the content, and all else is as it was
 pub record IsPainted (at n byte : ℕ) (old new : List ℕ) : Type 0 where
   pub len : length new ≡ length old
@@ -74,5 +73,6 @@ pub record IsPainted (at n byte : ℕ) (old new : List ℕ) : Type 0 where
 -- the synced bytes up to the least length, and this byte from there on and in these ranges, in some length
 pub record IsFill (byte : ℕ) (file : Durable) (ranges : List (ℕ × ℕ)) (len : ℕ) (left : List ℕ) : Type 0 where
   pub len_is : length left ≡ len
+  pub bytes : (k : ℕ) → slice_index left k < 2 ^ 8
   pub free : (k : ℕ) → k < len → (file.least ≤ k) ⊎ Covers ranges k → slice_index left k ≡ byte
   pub same : (k : ℕ) → k < file.least → (Covers ranges k → ⊥) → slice_index left k ≡ slice_index file.synced k

@@ -51,7 +51,11 @@ pub(crate) fn overwrite(content: &mut Vec<u8>, at: usize, bytes: &[u8])
 pub(crate) fn length_cut(len: usize, failed: bool, old: usize) -> usize
     ensures { result ≡ cut_to len failed old }
 {
-    if failed { len + old.saturating_sub(len) / 2 } else { len }
+    if failed {
+        len + old.saturating_sub(len) / 2
+    } else {
+        len
+    }
 }
 
 /// A write. One that fails puts the first half of its bytes.

@@ -1,9 +1,8 @@
-use Rattle.std.proofs.Common.{ℕ, List, [], length, take, drop}
+use Rattle.std.proofs.Common.{ℕ, List, [], length}
 use Rattle.std.specs.Prelude.{is_err}
-use Rattle.czi_rig.specs.declared.call.Call.TheVariants.{Len, Read, Write, Cut, Sync}
-use Rattle.czi_rig.specs.Disk.{overwritten}
+use Rattle.czi_rig.specs.declared.call.Call.TheVariants.{Read}
 use Rattle.czi_rig.specs.Memory.{history, faults}
-use Rattle.czi_rig.specs.Replay.{landed, cut_to, disk_now}
+use Rattle.czi_rig.specs.Replay.{disk_now}
 use Rattle.czi_rig.specs.declared.file.File.TheVariants.{Image, Journal}
 use Rattle.czi_rig.proofs.Steps.{image_step, journal_step, kept_image, kept_journal, on_read}
 use Rattle.czi_rig.proofs.Clauses.{quiet, here, read_is}

@@ -1,4 +1,3 @@
-use Rattle.czi_rig.specs.Memory.{history, faults}
 use Rattle.czi_rig.proofs.Steps.{output_step}
 use Rattle.czi_rig.proofs.Clauses.{says}
 use Rattle.czi_rig.proofs.memory_calls.MemRigRig.say.Goals as goal

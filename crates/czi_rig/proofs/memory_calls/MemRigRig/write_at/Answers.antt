@@ -1,9 +1,9 @@
-use Rattle.std.proofs.Common.{ℕ, List, [], length, take, drop}
+use Rattle.std.proofs.Common.{length}
 use Rattle.std.specs.Prelude.{is_err}
-use Rattle.czi_rig.specs.declared.call.Call.TheVariants.{Len, Read, Write, Cut, Sync}
+use Rattle.czi_rig.specs.declared.call.Call.TheVariants.{Write}
 use Rattle.czi_rig.specs.Disk.{overwritten}
 use Rattle.czi_rig.specs.Memory.{history, faults}
-use Rattle.czi_rig.specs.Replay.{landed, cut_to, disk_now}
+use Rattle.czi_rig.specs.Replay.{landed}
 use Rattle.czi_rig.proofs.Steps.{image_step, journal_step, kept_image, kept_journal}
 use Rattle.czi_rig.proofs.Clauses.{writes}
 use Rattle.czi_rig.proofs.memory_calls.MemRigRig.write_at.Goals as goal
