@@ -49,10 +49,13 @@ pub(crate) fn overwrite(content: &mut Vec<u8>, at: usize, bytes: &[u8])
 
 /// The length to which a cut brings a file: the one that was asked for, or where it fails half way to it.
 pub(crate) fn length_cut(len: usize, failed: bool, old: usize) -> usize
-    requires { len ≤ old }
     ensures { result ≡ cut_to len failed old }
 {
-    if failed { len + (old - len) / 2 } else { len }
+    if failed {
+        len + old.saturating_sub(len) / 2
+    } else {
+        len
+    }
 }
 
 /// A write. One that fails puts the first half of its bytes.
