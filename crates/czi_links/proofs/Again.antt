@@ -9,13 +9,13 @@ use Rattle.std.proofs.lemmas.Nat.{from_le_bytes-to_le_bytes_4, from_le_bytes-to_
 use Rattle.std.specs.Int.{Width, byte_len}
 use Rattle.std.proofs.lemmas.List.Elements.{All-head, All-tail}
 use Rattle.czi_format.specs.Bytes.{bytes_at, u32_at, u64_at}
-use Rattle.czi_links.specs.Record.{Bytes, Record, AreRising, EndWithin, IsSound, end_of, spell_link, spell_head, spelling}
-use Rattle.czi_links.specs.Reading.{Holds, is_good, after, links_at, holds, read, read_fields, Spells}
+use Rattle.czi_links.specs.Record.{Bytes, Record, AreRising, EndWithin, IsSound, encoded_len, end_of, spell_link, spell_head, spelling}
+use Rattle.czi_links.specs.Reading.{Holds, KeepsRules, is_good, after, links_at, holds, read, read_fields, Spells}
 
 abbrev number : Width → List ℕ → ℕ
 number w bytes = from_le_bytes w (take (byte_len w) bytes)
 
-if_true : {A : Type 0} (b : Bool) (x y : A) → b ≡ true → (if b then x else y) ≡ x
+pub if_true : {A : Type 0} (b : Bool) (x y : A) → b ≡ true → (if b then x else y) ≡ x
 if_true true x y e = refl
 if_true false x y e = cc
 
@@ -65,6 +65,9 @@ module _ (p s b x : List ℕ) (len_p : length p ≡ 8) (len_s : length s ≡ 4) 
 pub length-spell_link : (l : Bytes) → length (spell_link l) ≡ 12 + length l.bytes
 unfolding spell_link
 length-spell_link l = omega arith
+
+pub good_is : {place size from limit room : ℕ} → KeepsRules place size from limit room → is_good place size from limit room ≡ true
+good_is g = and_from _ _ (le-leb _ _ g.fits) (and_from _ _ (le-leb _ _ g.some) (and_from _ _ (le-leb _ _ g.begins) (le-leb _ _ g.ends)))
 
 regroup_link : (p s b x rest : List ℕ) → ((p ++ (s ++ b)) ++ x) ++ rest ≡ p ++ (s ++ (b ++ (x ++ rest)))
 regroup_link p s b x rest = simp append_assoc
@@ -156,3 +159,6 @@ read_again r rest sound =
 -- the one spelling
 pub spells_spelling : (r : Record) → IsSound r → Spells r (spelling r)
 spells_spelling r sound = record { again = λ rest. read_again r rest sound }
+
+pub sound_of : (r : Record) → length r.guid ≡ 16 → 112 ≤ r.committed → r.committed ≤ 2 ^ 62 → AreRising 84 r.links → EndWithin r.committed r.links → encoded_len r.links ≤ 262144 → IsSound r
+sound_of r guid least greatest rising ends fits = record { guid = guid; least = least; greatest = greatest; rising = rising; ends = ends; fits = fits }

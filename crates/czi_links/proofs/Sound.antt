@@ -7,7 +7,7 @@ use Rattle.std.proofs.lemmas.List.{length-take-le, length-drop}
 use Rattle.std.proofs.lemmas.List.Elements.{All-nil, All-cons}
 use Rattle.czi_format.specs.Bytes.{bytes_at, u32_at, u64_at}
 use Rattle.czi_links.specs.Record.{Bytes, AreRising, EndWithin, end_of}
-use Rattle.czi_links.specs.Reading.{Reading, Void, Holds, OfVersion, BadAt, IsRead, is_good, after, links_at, holds, read}
+use Rattle.czi_links.specs.Reading.{Reading, Void, Holds, OfVersion, BadAt, IsRead, KeepsRules, is_good, after, links_at, holds, read}
 
 -- links that were read keep the rules
 record Keep (from limit : ℕ) (ls : List Bytes) : Type 0 where
@@ -25,7 +25,7 @@ IsOfSlot (Holds r) = IsRead r
 IsOfSlot (OfVersion v) = Unit {0}
 IsOfSlot (BadAt place) = Unit {0}
 
-both : (a b : Bool) → (a && b) ≡ true → (a ≡ true) × (b ≡ true)
+pub both : (a b : Bool) → (a && b) ≡ true → (a ≡ true) × (b ≡ true)
 both true b e = (refl, e)
 both false b e = cc
 
@@ -34,13 +34,7 @@ chosen : {A : Type 0} (P : A → Type 0) (b : Bool) (x y : A) → (b ≡ true �
 chosen P true x y p q = p refl
 chosen P false x y p q = q
 
-record Good (place size from limit room : ℕ) : Type 0 where
-  fits : 12 + size ≤ room
-  some : 1 ≤ size
-  begins : from ≤ place
-  ends : place + size ≤ limit
-
-good_of : (place size from limit room : ℕ) → is_good place size from limit room ≡ true → Good place size from limit room
+pub good_of : (place size from limit room : ℕ) → is_good place size from limit room ≡ true → KeepsRules place size from limit room
 good_of place size from limit room e =
     let a = both (nat_le (12 + size) room) _ e in
     let b = both (nat_le 1 size) _ a.1 in
@@ -66,7 +60,7 @@ links_sound (suc n) at from limit rest = chosen (AreSound from limit) (is_good p
     size : ℕ
     size = u32_at rest 8
 
-    one : AreSound (place + size) limit (links_at n (at + (12 + size)) (place + size) limit (drop (12 + size) rest)) → Good place size from limit (length rest) → AreSound from limit (after (record { place = place; bytes = bytes_at rest 12 size }) (links_at n (at + (12 + size)) (place + size) limit (drop (12 + size) rest)))
+    one : AreSound (place + size) limit (links_at n (at + (12 + size)) (place + size) limit (drop (12 + size) rest)) → KeepsRules place size from limit (length rest) → AreSound from limit (after (record { place = place; bytes = bytes_at rest 12 size }) (links_at n (at + (12 + size)) (place + size) limit (drop (12 + size) rest)))
     one more g =
         let e : length (bytes_at rest 12 size) ≡ size = length-bytes_at rest 12 size (omega (arith, g.fits)) in
         after_sound from limit (record { place = place; bytes = bytes_at rest 12 size }) _ g.begins (omega (arith, e, g.some)) (omega (arith, e, g.ends))

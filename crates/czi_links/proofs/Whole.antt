@@ -60,7 +60,7 @@ added_of block entries place bytes b1 b2 b3 es at len n i1 i2 n_is i3 at_is len_
 bytes_spelt : (block bytes p s : List ℕ) → length p ≡ 8 → length s ≡ 4 → take (length bytes) (drop (length block + 12) (block ++ (p ++ (s ++ bytes)))) ≡ bytes
 bytes_spelt block bytes p s len_p len_s =
     ap (take (length bytes))
-        (drop-append-add block (p ++ (s ++ bytes)) 12 ∙ ap (drop 12) (sym (append_assoc p s bytes)) ∙ drop_at (p ++ s) bytes 12 (omega (arith, length-append p s, len_p, len_s)))
+    (drop-append-add block (p ++ (s ++ bytes)) 12 ∙ ap (drop 12) (sym (append_assoc p s bytes)) ∙ drop_at (p ++ s) bytes 12 (omega (arith, length-append p s, len_p, len_s)))
     ∙ take_all (length bytes) bytes (omega arith)
 
 last_link : (block : List ℕ) (place : ℕ) (bytes : List ℕ) → link_in (block ++ spell_link (record { place = place; bytes = bytes })) (record { place = place; at = length block + 12; len = length bytes }) ≡ record { place = place; bytes = bytes }

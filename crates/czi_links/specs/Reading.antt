@@ -22,6 +22,13 @@ after l (Err place) = Err place
 abbrev pub is_good : ℕ → ℕ → ℕ → ℕ → ℕ → Bool
 is_good place size from limit room = nat_le (12 + size) room && (nat_le 1 size && (nat_le from place && nat_le (place + size) limit))
 
+-- the same as a fact
+pub record KeepsRules (place size from limit room : ℕ) : Type 0 where
+  pub fits : 12 + size ≤ room
+  pub some : 1 ≤ size
+  pub begins : from ≤ place
+  pub ends : place + size ≤ limit
+
 -- The next n links of `rest`, which stands at `at`: each at `from` or later, not empty, and ending at `limit` or below.
 unfoldable pub links_at : ℕ → ℕ → ℕ → ℕ → List ℕ → Result (List Bytes) ℕ
 links_at zero at from limit rest = Ok []
@@ -65,3 +72,10 @@ IsAnswer reading links (Ok head) = reading ≡ Holds (record_of head links)
 IsAnswer reading links (Err (Version v)) = reading ≡ OfVersion v
 IsAnswer reading links (Err (Bad place)) = reading ≡ BadAt place
 IsAnswer reading links (Err Memory) = Unit {0}
+
+-- the same of a slot's links alone
+abbrev pub AreLinks : Result (List Bytes) ℕ → List Bytes → Result (Unit {0}) LinkFault → Type 0
+AreLinks read links (Ok done) = read ≡ Ok links
+AreLinks read links (Err (Version v)) = ⊥
+AreLinks read links (Err (Bad place)) = read ≡ Err place
+AreLinks read links (Err Memory) = Unit {0}

@@ -16,10 +16,13 @@
 //! and ends at or below the committed length. What follows the last link in the slot isn't looked at.
 #![tactic(auto)]
 
-
+mod decoding;
 mod head;
 mod write_set;
 
-
+pub use decoding::decode;
 pub use head::{LinkFault, SlotHead};
 pub use write_set::Links;
+
+#[cfg(test)]
+mod tests;

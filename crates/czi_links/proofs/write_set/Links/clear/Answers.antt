@@ -15,11 +15,12 @@ pub invariant_of-self : goal.invariant_of-self
 invariant_of-self c =
     let s = c.self.inside in
     let len = block_len s.block.items s.entries.items c.self.invariant.0 in
-    let room = c.self.invariant in
-    (emptied_whole c.clear-2.new.self.items c.clear.new.self.items c.clear-2.ensures.items c.clear.ensures.items,
-    record { room = omega (arith, room.1.room, c.len.ensures, c.clear.ensures.len, c.clear.ensures.capacity) },
-    record { room = omega (arith, room.2.room, len, s.block.ok.0, s.entries.ok.0, c.len.ensures, c.len-2.ensures, c.len-3.ensures, c.clear-2.ensures.len, c.clear-2.ensures.capacity) },
-    omega (arith, room.3, len, s.block.ok.0, s.entries.ok.0, c.len.ensures, c.len-2.ensures, c.len-3.ensures, c.clear-2.ensures.len))
+    let room = c.self.invariant in (
+      emptied_whole c.clear-2.new.self.items c.clear.new.self.items c.clear-2.ensures.items c.clear.ensures.items,
+      record { room = omega (arith, room.1.room, c.len.ensures, c.clear.ensures.len, c.clear.ensures.capacity) },
+      record { room = omega (arith, room.2.room, len, s.block.ok.0, s.entries.ok.0, c.len.ensures, c.len-2.ensures, c.len-3.ensures, c.clear-2.ensures.len, c.clear-2.ensures.capacity) },
+      omega (arith, room.3, len, s.block.ok.0, s.entries.ok.0, c.len.ensures, c.len-2.ensures, c.len-3.ensures, c.clear-2.ensures.len),
+    )
 
 pub returns : goal.returns
 returns c =

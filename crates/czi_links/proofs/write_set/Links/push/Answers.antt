@@ -23,11 +23,12 @@ invariant_of-self c =
     let small = room.3 in
     let n1 = c.append.ensures.len in
     let n2 = c.append-2.ensures.len in
-    let n3 = c.append-3.ensures.len in
-    (added_whole a room.0 begins c.requires.some,
-    record { room = omega (arith, r1, links_room, c.requires.spare, c.add.ensures.len, c.add.ensures.capacity) },
-    record { room = omega (arith, r2, l8, l4, n1, n2, n3, links_room, bytes_room, c.requires.spare, c.requires.room, c.append.ensures.capacity, c.append-2.ensures.capacity, c.append-3.ensures.capacity) },
-    omega (arith, small, l8, l4, n1, n2, n3, links_room, bytes_room, c.requires.spare, c.requires.room))
+    let n3 = c.append-3.ensures.len in (
+      added_whole a room.0 begins c.requires.some,
+      record { room = omega (arith, r1, links_room, c.requires.spare, c.add.ensures.len, c.add.ensures.capacity) },
+      record { room = omega (arith, r2, l8, l4, n1, n2, n3, links_room, bytes_room, c.requires.spare, c.requires.room, c.append.ensures.capacity, c.append-2.ensures.capacity, c.append-3.ensures.capacity) },
+      omega (arith, small, l8, l4, n1, n2, n3, links_room, bytes_room, c.requires.spare, c.requires.room),
+    )
 
 pub returns : goal.returns
 returns c =
