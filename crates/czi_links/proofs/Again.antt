@@ -160,5 +160,9 @@ read_again r rest sound =
 pub spells_spelling : (r : Record) → IsSound r → Spells r (spelling r)
 spells_spelling r sound = record { again = λ rest. read_again r rest sound }
 
+-- and with other bytes behind it
+pub spells_front : (r : Record) (more : List ℕ) → IsSound r → Spells r (spelling r ++ more)
+spells_front r more sound = record { again = λ rest. ap read (append_assoc (spelling r) more rest) ∙ read_again r (more ++ rest) sound }
+
 pub sound_of : (r : Record) → length r.guid ≡ 16 → 112 ≤ r.committed → r.committed ≤ 2 ^ 62 → AreRising 84 r.links → EndWithin r.committed r.links → encoded_len r.links ≤ 262144 → IsSound r
 sound_of r guid least greatest rising ends fits = record { guid = guid; least = least; greatest = greatest; rising = rising; ends = ends; fits = fits }

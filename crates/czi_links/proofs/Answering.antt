@@ -1,12 +1,12 @@
 -- What a slot is read as, from its fields.
-use Rattle.std.proofs.Common.{◌≡◌, ℕ, ◌≤◌, ◌^◌, Bool, ◌&&◌, true, nat_le, List, [], drop, Ok, Err, refl, sym, ◌∙◌, ap, subst, eq-eqb, eqb-true, arith}
+use Rattle.std.proofs.Common.{◌≡◌, ℕ, ◌≤◌, ◌^◌, ◌&&◌, nat_le, List, drop, Err, sym, ◌∙◌, ap, subst, eq-eqb, eqb-true, arith}
 use Rattle.std.specs.Prelude.{Result, ◌==◌, if◌then◌else◌}
 use Rattle.std.proofs.lemmas.Bool.{le-leb, leb-true, and_from}
 use Rattle.czi_format.specs.Bytes.{bytes_at, u32_at, u64_at}
 use Rattle.czi_links.specs.declared.head.LinkFault.{LinkFault}
 use Rattle.czi_links.specs.declared.head.LinkFault.TheVariants.{Version, Bad, Memory}
 use Rattle.czi_links.specs.Record.{Bytes, Record}
-use Rattle.czi_links.specs.Reading.{Reading, Holds, OfVersion, BadAt, AreLinks, IsAnswer, IsRead, holds, links_at, read, read_fields}
+use Rattle.czi_links.specs.Reading.{Reading, Holds, OfVersion, BadAt, AreLinks, IsAnswer, IsRead, holds, links_at, read}
 use Rattle.czi_links.proofs.Again.{if_true}
 use Rattle.czi_links.proofs.Sound.{IsOfSlot, both, read_sound}
 use Rattle.czi_links.proofs.Taken.{if_false}

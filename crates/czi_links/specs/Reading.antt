@@ -79,3 +79,9 @@ AreLinks read links (Ok done) = read ≡ Ok links
 AreLinks read links (Err (Version v)) = ⊥
 AreLinks read links (Err (Bad place)) = read ≡ Err place
 AreLinks read links (Err Memory) = Unit {0}
+
+-- the place that is refused lies in a slot of n bytes, or at its end
+abbrev pub IsWithin : ℕ → LinkFault → Type 0
+IsWithin n (Version v) = Unit {0}
+IsWithin n (Bad place) = place ≤ n
+IsWithin n Memory = Unit {0}

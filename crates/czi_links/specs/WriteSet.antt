@@ -1,5 +1,5 @@
 -- What contracts see of `Links`, and how it lies in memory.
-use Rattle.std.specs.Prelude.{◌≡◌, ℕ, ◌+◌, ◌*◌, ◌<◌, ◌≤◌, ◌^◌, List, length, take, drop, map, All}
+use Rattle.std.specs.Prelude.{◌≡◌, ℕ, ◌+◌, ◌*◌, ◌≤◌, List, length, take, drop, map, All}
 use Rattle.std.specs.List.{flat_map}
 use Rattle.czi_links.specs.Record.{Bytes, AreRising, spell_link}
 use Rattle.czi_links.specs.declared.write_set.Entry.{Entry}

@@ -1,10 +1,10 @@
-ghost use Rattle.std.specs.Prelude.{◌≡◌, ◌≤◌, ◌+◌, [], length, drop, MatchOption, IfOk, OnErr};
+ghost use Rattle.std.specs.Prelude.{◌≡◌, ◌≤◌, ◌+◌, [], length, drop, MatchOption, IfOk, IfErr, OnErr};
 ghost use Rattle.czi_format.specs.Bytes.{u32_at, u64_at};
 ghost use Rattle.czi_links.specs.Record.{record_of};
-ghost use Rattle.czi_links.specs.Reading.{AreLinks, IsAnswer, IsRead, KeepsRules, links_at, read};
+ghost use Rattle.czi_links.specs.Reading.{AreLinks, IsAnswer, IsRead, IsWithin, KeepsRules, links_at, read};
 
-use crate::head::{LinkFault, SlotHead};
-use crate::write_set::{LINK_HEAD, Links, RECORD_HEAD, VERSION};
+use crate::head::{LinkFault, RECORD_HEAD, SlotHead, VERSION};
+use crate::write_set::{LINK_HEAD, Links};
 use czi_num::{read_bytes, read_u32, read_u64};
 
 /// The first place at which a link may begin, behind the GUIDs of the file header.
@@ -24,6 +24,7 @@ pub fn decode(slot: &[u8], into: &mut Links) -> Result<SlotHead, LinkFault>
     // The record that the slot holds, or the refusal of the first field that breaks the grammar.
     ensures answer { IsAnswer (read slot.now) into.new.links result }
     ensures rules { IfOk result (λ head. IsRead (record_of head into.new.links)) }
+    ensures place { IfErr result (IsWithin (length slot.now)) }
     ensures emptied { OnErr result (into.new.links ≡ []) }
 {
     into.clear();
@@ -50,7 +51,8 @@ pub fn decode(slot: &[u8], into: &mut Links) -> Result<SlotHead, LinkFault>
 fn read_links(slot: &[u8], count: u32, limit: u64, into: &mut Links) -> Result<(), LinkFault>
     requires head { 32 ≤ length slot.now }
     requires empty { into.old.links ≡ [] }
-    ensures { AreLinks (links_at count 32 84 limit (drop 32 slot.now)) into.new.links result }
+    ensures links { AreLinks (links_at count 32 84 limit (drop 32 slot.now)) into.new.links result }
+    ensures place { IfErr result (IsWithin (length slot.now)) }
 {
     let mut at = RECORD_HEAD;
     let mut from = FIRST_PLACE;

@@ -1,4 +1,16 @@
+ghost use Rattle.std.specs.Prelude.{◌≡◌, ◌+◌, ◌^◌, ◌≤◌, [], length, drop, ◌++◌};
+ghost use Rattle.czi_format.specs.Bytes.{put_at};
+ghost use Rattle.czi_links.specs.Record.{record_of, spell_head, spelling};
+ghost use Rattle.czi_links.specs.Reading.{Spells};
+
+use czi_num::{write_bytes, write_u32, write_u64};
 use std::alloc::AllocError;
+
+/// The version of a record.
+pub(crate) const VERSION: u32 = 1;
+
+/// Bytes of a record before its links.
+pub(crate) const RECORD_HEAD: usize = 32;
 
 /// What a record says besides its links.
 #[derive(Clone, Copy, Debug, PartialEq, Eq)]
@@ -7,6 +19,31 @@ pub struct SlotHead {
     pub guid: [u8; 16],
     /// The image's length in bytes once the record is committed.
     pub length: u64,
+}
+
+impl SlotHead {
+    /// Writes the record of this head without links, 32 bytes, at the front of a slot. Read as a slot, with any
+    /// bytes behind it, it gives the head again.
+    pub fn encode(&self, slot: &mut [u8])
+        requires room { 32 ≤ length slot.old }
+        requires least { 112 ≤ self.now.length }
+        requires greatest { self.now.length ≤ 2 ^ 62 }
+        ensures bytes { slot.new ≡ spelling (record_of self.now []) ++ drop 32 slot.old }
+        ensures read_again { Spells (record_of self.now []) slot.new }
+    {
+        write_head(slot, self, 0);
+    }
+}
+
+/// Writes the bytes of a record before its links.
+pub(crate) fn write_head(out: &mut [u8], head: &SlotHead, count: u32)
+    requires { 32 ≤ length out.old }
+    ensures { out.new ≡ put_at out.old 0 (spell_head head.now.guid head.now.length count) }
+{
+    write_u32(out, 0, VERSION);
+    write_bytes(out, 4, &head.guid);
+    write_u64(out, 20, head.length);
+    write_u32(out, 28, count);
 }
 
 /// Why a slot holds no record that can be read.

@@ -3,19 +3,13 @@ ghost use Rattle.std.specs.Vec.{vec_len, vec_capacity};
 ghost use Rattle.czi_links.specs.Record.{AreRising, EndWithin, encoded_len, next_place, record_of, spelling};
 ghost use Rattle.czi_links.specs.Reading.{Spells};
 
-use crate::head::SlotHead;
-use czi_num::{write_bytes, write_u32, write_u64};
+use crate::head::{RECORD_HEAD, SlotHead, write_head};
+use czi_num::write_bytes;
 use std::alloc::{AllocError, Global};
 use std::marker::Model;
 
 /// Bytes of a link before its own: its place and their number.
 pub(crate) const LINK_HEAD: usize = 12;
-
-/// Bytes of a record before its links.
-pub(crate) const RECORD_HEAD: usize = 32;
-
-/// The version of a record.
-pub(crate) const VERSION: u32 = 1;
 
 /// The most bytes that links and their heads may take, so that each number of bytes fits its field.
 const MOST: usize = 0xffff_ffff;
@@ -125,10 +119,7 @@ impl Links {
         ensures bytes { out.new ≡ spelling (record_of head.now self.now.links) }
         ensures read_again { Spells (record_of head.now self.now.links) out.new }
     {
-        write_u32(out, 0, VERSION);
-        write_bytes(out, 4, &head.guid);
-        write_u64(out, 20, head.length);
-        write_u32(out, 28, self.entries.len() as u32);
+        write_head(out, head, self.entries.len() as u32);
         write_bytes(out, RECORD_HEAD, &self.block);
     }
 

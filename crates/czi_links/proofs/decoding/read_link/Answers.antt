@@ -1,4 +1,4 @@
-use Rattle.std.proofs.Common.{◌≡◌, ◌∙◌, drop, arith}
+use Rattle.std.proofs.Common.{◌∙◌, arith}
 use Rattle.std.proofs.lemmas.List.{length-drop}
 use Rattle.czi_links.proofs.Taken.{place_at, size_at}
 use Rattle.czi_links.proofs.decoding.read_link.Goals as goal

@@ -1,4 +1,4 @@
-use Rattle.std.proofs.Common.{◌≡◌, ◌≤◌, ◌+◌, ◌-◌, ℕ, List, [], ◌∷◌, ◌++◌, length, take, drop, refl, sym, ◌∙◌, ap, arith}
+use Rattle.std.proofs.Common.{◌≡◌, ◌+◌, ◌-◌, ℕ, List, [], ◌∷◌, ◌++◌, length, take, drop, sym, ◌∙◌, ap, arith}
 use Rattle.std.proofs.lemmas.List.{length-drop, length-take-le}
 use Rattle.czi_links.specs.Record.{Bytes, next_place}
 use Rattle.czi_links.specs.Reading.{links_at}
@@ -20,8 +20,8 @@ loop-taken-init c =
 pub read_link-requires : goal.read_link-requires
 read_link-requires c = c.loop-taken.invariant.within
 
-pub returns-in_default : goal.returns-in_default
-returns-in_default c = none_taken c.args.slot.now c.args.count c.loop-taken._taken c.loop-taken.at c.loop-taken.from c.args.limit c.loop-taken.into.links _ c.loop-taken-test.true (c.in_default.ensures {u = tt}) c.loop-taken.invariant.so_far
+pub returns-in_default-clause-links : goal.returns-in_default-clause-links
+returns-in_default-clause-links c = none_taken c.args.slot.now c.args.count c.loop-taken._taken c.loop-taken.at c.loop-taken.from c.args.limit c.loop-taken.into.links _ c.loop-taken-test.true (c.in_default.ensures {u = tt}) c.loop-taken.invariant.so_far
 
 pub push-requires-clause-rising : goal.push-requires-clause-rising
 push-requires-clause-rising c =
@@ -53,5 +53,5 @@ loop-taken-preserved c =
       so_far = one_taken slot c.args.count c.loop-taken._taken at c.loop-taken.from c.args.limit c.loop-taken.into.links c.push.new.self.links place len _ c.loop-taken-test.true good rules.1 rules.2 inv.so_far new_is;
     }
 
-pub returns : goal.returns
-returns c = all_taken c.args.slot.now c.args.count c.loop-taken._taken c.loop-taken.at c.loop-taken.from c.args.limit c.loop-taken.into.links _ c.loop-taken-test.false c.loop-taken.invariant.so_far
+pub returns-clause-links : goal.returns-clause-links
+returns-clause-links c = all_taken c.args.slot.now c.args.count c.loop-taken._taken c.loop-taken.at c.loop-taken.from c.args.limit c.loop-taken.into.links _ c.loop-taken-test.false c.loop-taken.invariant.so_far

@@ -1,5 +1,4 @@
 use Rattle.std.proofs.Common.{◌≡◌, ◌≤◌, ◌+◌, ◌-◌, ℕ, List, [], ◌∷◌, ◌++◌, length, refl, sym, ◌∙◌, ap, subst, arith}
-use Rattle.std.proofs.lemmas.List.{length-append}
 use Rattle.czi_links.specs.Record.{Bytes, next_place}
 use Rattle.czi_links.specs.WriteSet.{WriteSet, links_in}
 use Rattle.czi_links.proofs.Whole.{added_of, added_links, added_whole, same_set}
