@@ -1,6 +1,6 @@
 -- Parts of a byte list, and the little-endian numbers in it. A reading is total: past the end stand zeros.
 -- That a field lies in the list is said beside it, as in "the extent lies in the image".
-use Rattle.std.specs.Prelude.{ℕ, ◌<◌, List, ℤ, take, drop, slice_index, codes, length, ◌++◌, ◌+◌, ◌-◌, replicate}
+use Rattle.std.specs.Prelude.{◌≡◌, ℕ, ◌<◌, List, ℤ, take, drop, slice_index, codes, length, ◌++◌, ◌+◌, ◌-◌, replicate}
 use Rattle.std.specs.Int.{cast_signed, cast_unsigned, from_le_bytes, to_le_bytes, w16, w32, w64}
 use Prim.Native.String.{String}
 
@@ -37,6 +37,12 @@ i64_at bytes at = cast_signed w64 (from_le_bytes w64 (bytes_at bytes at 8))
 -- these bytes written over at a place; every other byte stays
 abbrev pub put_at : List ℕ → ℕ → List ℕ → List ℕ
 put_at bytes at new = take at bytes ++ new ++ drop (at + length new) bytes
+
+-- only the n bytes at a place may differ
+pub record SameBeside (at n : ℕ) (old new : List ℕ) : Type 0 where
+  pub as_long : length new ≡ length old
+  pub before : take at new ≡ take at old
+  pub behind : drop (at + n) new ≡ drop (at + n) old
 
 -- the bytes of an unsigned number
 abbrev pub u16_bytes : ℕ → List ℕ

@@ -1,0 +1,6 @@
+pub mod Again
+pub mod Sound
+mod Encoding
+mod Taken
+mod Answering
+mod Whole
