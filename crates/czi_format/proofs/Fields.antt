@@ -49,6 +49,12 @@ put_both xs at next a b side fits =
     ∙ (ap (λ l. ((take at xs ++ a) ++ b) ++ l) past
     ∙ ap (λ l. l ++ drop (at + length (a ++ b)) xs) (append_assoc (take at xs) a b))
 
+-- a write behind a front
+pub put_next : (front rest new : List ℕ) (at : ℕ) → length front ≡ at → put_at (front ++ rest) at new ≡ (front ++ new) ++ drop (length new) rest
+put_next front rest new at long =
+    ap (λ l. (l ++ new) ++ drop (at + length new) (front ++ rest)) (take_at front rest at long)
+    ∙ ap (λ l. (front ++ new) ++ l) (sym (drop-drop (length new) at (front ++ rest)) ∙ ap (drop (length new)) (drop_at front rest at long))
+
 -- a write over the front
 pub put_front : (xs new : List ℕ) → put_at xs 0 new ≡ new ++ drop (length new) xs
 put_front xs new = ap (λ n. new ++ drop n xs) (let e : 0 + length new ≡ length new = omega arith in e)

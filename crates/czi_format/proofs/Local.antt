@@ -38,11 +38,11 @@ same_front a b at n m same fits =
     let front : at + 0 ≡ at = omega arith in
     subst (λ p. bytes_at a p m ≡ bytes_at b p m) front (same_part a b at n 0 m same (omega arith))
 
-i32_same : (a b : List ℕ) (at : ℕ) → bytes_at a at 4 ≡ bytes_at b at 4 → i32_at a at ≡ i32_at b at
+pub i32_same : (a b : List ℕ) (at : ℕ) → bytes_at a at 4 ≡ bytes_at b at 4 → i32_at a at ≡ i32_at b at
 unfolding i32_at
 i32_same a b at same = cc
 
-i64_same : (a b : List ℕ) (at : ℕ) → bytes_at a at 8 ≡ bytes_at b at 8 → i64_at a at ≡ i64_at b at
+pub i64_same : (a b : List ℕ) (at : ℕ) → bytes_at a at 8 ≡ bytes_at b at 8 → i64_at a at ≡ i64_at b at
 unfolding i64_at
 i64_same a b at same = cc
 

@@ -21,7 +21,7 @@ pub on_ok : {A B E G : Type 0} (r : Result A E) (f : A → Result B E) (y : B) �
 on_ok (Ok x) f y e go = go x refl e
 on_ok (Err x) f y e go = absurd (cc)
 
-on_rule : {A E G : Type 0} (o : Option E) (rest : Result A E) (y : A) → o >> rest ≡ Ok y → (o ≡ None → rest ≡ Ok y → G) → G
+pub on_rule : {A E G : Type 0} (o : Option E) (rest : Result A E) (y : A) → o >> rest ≡ Ok y → (o ≡ None → rest ≡ Ok y → G) → G
 on_rule None rest y e go = go refl e
 on_rule (Some x) rest y e go = absurd (cc)
 
@@ -29,7 +29,7 @@ pub ok_or_ok : {A E : Type 0} (o : Option A) (e : E) (x : A) → ok_or o e ≡ O
 ok_or_ok None e x h = cc
 ok_or_ok (Some y) e x h = cc
 
-unless_none : {E : Type 0} (b : Bool) (e : E) → unless b e ≡ None → b ≡ true
+pub unless_none : {E : Type 0} (b : Bool) (e : E) → unless b e ≡ None → b ≡ true
 unless_none true e h = refl
 unless_none false e h = cc
 
@@ -37,7 +37,7 @@ with_fault_ok : {A D E : Type 0} (f : D → E) (r : Result A D) (x : A) → with
 with_fault_ok f (Ok y) x h = cc
 with_fault_ok f (Err e) x h = cc
 
-zero_is : (z : ℤ) → is_zero z ≡ true → z ≡ pos 0
+pub zero_is : (z : ℤ) → is_zero z ≡ true → z ≡ pos 0
 zero_is (pos zero) h = refl
 zero_is (pos (suc n)) h = cc
 zero_is (negsuc n) h = cc

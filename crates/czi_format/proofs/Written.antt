@@ -1,5 +1,5 @@
 -- What is written is read again, whatever follows it.
-use Rattle.std.proofs.Common.{◌≡◌, ℕ, suc, ◌+◌, ◌*◌, ◌≤◌, ◌<◌, ◌^◌, ℤ, pos, List, [], ◌∷◌, ◌++◌, take, drop, length, true, nat_le, Some, Ok, refl, ap, sym, ◌∙◌, arith, subst, codes, append_assoc, length-append}
+use Rattle.std.proofs.Common.{◌≡◌, ℕ, suc, ◌+◌, ◌-◌, ◌*◌, ◌≤◌, ◌<◌, ◌^◌, ℤ, pos, List, [], ◌∷◌, ◌++◌, take, drop, length, true, nat_le, Some, Ok, refl, ap, sym, ◌∙◌, arith, subst, codes, append_assoc, length-append}
 use Rattle.std.proofs.lemmas.Bool.{le-leb}
 use Rattle.std.proofs.lemmas.List.{take-take}
 use Rattle.std.proofs.Math.Seq.{drop-append_seam, drop-append-add, take-append_seam}
@@ -10,6 +10,8 @@ use Rattle.std.specs.Int.{cast_signed, cast_unsigned, from_le_bytes, to_le_bytes
 use Rattle.std.specs.List.{AllByRecursion, flat_map}
 use Rattle.std.specs.Prelude.{FitsSigned}
 use Rattle.czi_format.specs.Bytes.{bytes_at, byte_at, i32_at, i64_at, i64_bytes}
+use Rattle.czi_format.specs.Contents.{entry_count, directory_head}
+use Rattle.czi_format.specs.Partial.{natural}
 use Rattle.czi_format.specs.FirstFault.{one_after_another}
 use Rattle.czi_format.specs.Segment.{Segment, segment_at, header_bytes}
 use Rattle.czi_format.proofs.Readings.{stands_segment}
@@ -17,10 +19,10 @@ use Rattle.czi_format.proofs.Local.{part_of_part}
 use Rattle.czi_format.specs.Entry.{Dim, Entry, dim, dims, entry, entry_len, dim_bytes, entry_bytes, IsDim, IsEntry}
 
 -- the number that four, and eight, written bytes are
-again_4 : (z : ℤ) → FitsSigned w32 z → cast_signed w32 (from_le_bytes w32 (to_le_bytes w32 (cast_unsigned w32 z))) ≡ z
+pub again_4 : (z : ℤ) → FitsSigned w32 z → cast_signed w32 (from_le_bytes w32 (to_le_bytes w32 (cast_unsigned w32 z))) ≡ z
 again_4 z fits = ap (cast_signed w32) (from_le_bytes-to_le_bytes_4 (cast_unsigned w32 z) (Fits-lt-pow (Fits-of_z {w = w32} fits))) ∙ to_z-of_z w32 z fits
 
-again_8 : (z : ℤ) → FitsSigned w64 z → cast_signed w64 (from_le_bytes w64 (to_le_bytes w64 (cast_unsigned w64 z))) ≡ z
+pub again_8 : (z : ℤ) → FitsSigned w64 z → cast_signed w64 (from_le_bytes w64 (to_le_bytes w64 (cast_unsigned w64 z))) ≡ z
 again_8 z fits = ap (cast_signed w64) (from_le_bytes-to_le_bytes_8 (cast_unsigned w64 z) (Fits-lt-pow (Fits-of_z {w = w64} fits))) ∙ to_z-of_z w64 z fits
 
 dim_cells : (a b c d e f g h : ℕ) (start size stored : ℤ) (rest : List ℕ) → FitsSigned w32 start → FitsSigned w32 size → FitsSigned w32 stored
@@ -38,7 +40,7 @@ four (a ∷ b ∷ []) e = absurd (omega arith)
 four (a ∷ b ∷ c ∷ []) e = absurd (omega arith)
 four (a ∷ b ∷ c ∷ d ∷ x ∷ xs) e = absurd (omega arith)
 
-dim_again : (d : Dim) (rest : List ℕ) → IsDim d → dim (dim_bytes d ++ rest) ≡ d
+pub dim_again : (d : Dim) (rest : List ℕ) → IsDim d → dim (dim_bytes d ++ rest) ≡ d
 dim_again d rest is =
     let n = four d.name is.name in
     let c = four d.coord is.coord in
@@ -53,7 +55,7 @@ dim_rest d rest is =
     let P : List ℕ → List ℕ → Type 0 = λ name coord. drop 20 (dim_bytes (record d { name = name; coord = coord }) ++ rest) ≡ rest in
     subst (λ name. P name d.coord) (sym n.4) (subst (λ coord. P (n.0 ∷ n.1 ∷ n.2 ∷ n.3 ∷ []) coord) (sym c.4) refl)
 
-dims_again : (ds : List Dim) (rest : List ℕ) → AllByRecursion IsDim ds → dims (length ds) (flat_map dim_bytes ds ++ rest) ≡ ds
+pub dims_again : (ds : List Dim) (rest : List ℕ) → AllByRecursion IsDim ds → dims (length ds) (flat_map dim_bytes ds ++ rest) ≡ ds
 unfolding dims
 dims_again [] rest all = refl
 dims_again (d ∷ ds) rest all =
@@ -65,7 +67,7 @@ dims_again (d ∷ ds) rest all =
     ap (dims (suc (length ds))) split ∙ (λ i. first i ∷ (ap (dims (length ds)) behind ∙ others) i)
 
 -- an entry from its fields
-entry_from : (bytes : List ℕ) (n : ℕ) → i32_at bytes 28 ≡ pos n → i32_at bytes 14 ≡ pos 0 → bytes_at bytes 0 2 ≡ codes "DV"
+pub entry_from : (bytes : List ℕ) (n : ℕ) → i32_at bytes 28 ≡ pos n → i32_at bytes 14 ≡ pos 0 → bytes_at bytes 0 2 ≡ codes "DV"
     → 1 ≤ n → n ≤ 40 → 32 + 20 * n ≤ length bytes
     → entry bytes ≡ Some (record {
       info = record { pixel = i32_at bytes 2; compression = i32_at bytes 18; pyramid = byte_at bytes 22; spare = bytes_at bytes 23 5; dims = dims n (drop 32 bytes) };
@@ -78,7 +80,7 @@ entry_from bytes n count part schema some few fits =
     let c : nat_le (32 + 20 * n) (length bytes) ≡ true = le-leb _ _ fits in
     rw (count, part, schema, a, b, c)
 
-length-dims_bytes : (ds : List Dim) → AllByRecursion IsDim ds → length (flat_map dim_bytes ds) ≡ 20 * length ds
+pub length-dims_bytes : (ds : List Dim) → AllByRecursion IsDim ds → length (flat_map dim_bytes ds) ≡ 20 * length ds
 length-dims_bytes [] all = refl
 length-dims_bytes (d ∷ ds) all =
     let name : length d.name ≡ 4 = all.0.name in
@@ -106,7 +108,7 @@ entry_cells a b c d e x rest spare is =
     })) in
     subst (λ z. entry (entry_bytes (record x { info = record x.info { spare = z } }) ++ rest) ≡ Some x) (sym spare) whole
 
-five : (xs : List ℕ) → length xs ≡ 5 → (a : ℕ) × (b : ℕ) × (c : ℕ) × (d : ℕ) × (e : ℕ) × (xs ≡ a ∷ b ∷ c ∷ d ∷ e ∷ [])
+pub five : (xs : List ℕ) → length xs ≡ 5 → (a : ℕ) × (b : ℕ) × (c : ℕ) × (d : ℕ) × (e : ℕ) × (xs ≡ a ∷ b ∷ c ∷ d ∷ e ∷ [])
 five (a ∷ b ∷ c ∷ d ∷ e ∷ []) h = (a, b, c, d, e, refl)
 five [] h = absurd (omega arith)
 five (a ∷ []) h = absurd (omega arith)
@@ -121,13 +123,13 @@ entry_again x rest is =
     let s = five x.info.spare is.info.spare in
     entry_cells s.0 s.1 s.2 s.3 s.4 x rest s.5 is
 
-length-entry_bytes : (x : Entry) → IsEntry x → length (entry_bytes x) ≡ entry_len x
+pub length-entry_bytes : (x : Entry) → IsEntry x → length (entry_bytes x) ≡ entry_len x
 length-entry_bytes x is =
     let long : length (flat_map dim_bytes x.info.dims) ≡ 20 * length x.info.dims = length-dims_bytes x.info.dims is.info.dims in
     let spare : length x.info.spare ≡ 5 = is.info.spare in
     simp length-append (omega arith)
 
-drop_front : (a b : List ℕ) (n : ℕ) → length a ≡ n → drop n (a ++ b) ≡ b
+pub drop_front : (a b : List ℕ) (n : ℕ) → length a ≡ n → drop n (a ++ b) ≡ b
 drop_front a b n long = ap (λ k. drop k (a ++ b)) (sym long) ∙ drop-append_seam a b
 
 -- written entries are read again, whatever follows them
@@ -143,7 +145,7 @@ entries_again {E} fault (x ∷ xs) at rest all =
     ap (one_after_another entry entry_len fault (suc (length xs)) at) split ∙ rw (first, behind, others)
 
 -- what is behind a front
-later : (a b : List ℕ) (k n m : ℕ) → length a ≡ m → bytes_at (a ++ b) (m + k) n ≡ bytes_at b k n
+pub later : (a b : List ℕ) (k n m : ℕ) → length a ≡ m → bytes_at (a ++ b) (m + k) n ≡ bytes_at b k n
 unfolding bytes_at
 later a b k n m long = ap (take n) (ap (λ z. drop (z + k) (a ++ b)) (sym long) ∙ drop-append-add a b k)
 
@@ -177,3 +179,8 @@ header_again image s long allocated used inside written =
       used = i64_of_bytes image (s.at + 24) (pos s.used) (record { sfits = omega arith }) second;
       inside = inside;
     })
+
+-- a written number of entries is read again
+pub count_again : (n : ℕ) (rest : List ℕ) → n ≤ 2 ^ 31 - 1 → entry_count (directory_head n ++ rest) ≡ Some n
+unfolding entry_count i32_at bytes_at
+count_again n rest small = ap natural (again_4 (pos n) (record { sfits = omega arith }))

@@ -1,6 +1,6 @@
 -- What lies where in the data of a segment. Places count from the front of the data.
-use Rattle.std.specs.Prelude.{ℕ, ◌+◌, ◌*◌, List, max, nat_le, Option, Some}
-use Rattle.czi_format.specs.Bytes.{i32_at, i64_at}
+use Rattle.std.specs.Prelude.{ℕ, ◌+◌, ◌*◌, ◌++◌, List, pos, replicate, max, nat_le, Option, Some}
+use Rattle.czi_format.specs.Bytes.{i32_at, i32_bytes, i64_at}
 use Rattle.czi_format.specs.Partial.{◌>>=◌, natural, given}
 
 -- the front of subblock data: where the contents begin, and how long the metadata, the pixels and the attachment are
@@ -43,3 +43,7 @@ att_size bytes = natural (i32_at bytes 0)
 -- the front of directory data: how many entries there are
 unfoldable pub entry_count : List ℕ → Option ℕ
 entry_count bytes = natural (i32_at bytes 0)
+
+-- the front of directory data, written: EntryCount, and 124 reserved bytes
+abbrev pub directory_head : ℕ → List ℕ
+directory_head count = i32_bytes (pos count) ++ replicate 124 0

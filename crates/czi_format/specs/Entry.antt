@@ -40,34 +40,43 @@ unfoldable pub dims : ℕ → List ℕ → List Dim
 dims zero bytes = []
 dims (suc n) bytes = dim bytes ∷ dims n (drop 20 bytes)
 
+-- the fields of an entry, with these dimension records
+abbrev pub with_records : List ℕ → List Dim → Entry
+with_records bytes ds = record {
+  info = record { pixel = i32_at bytes 2; compression = i32_at bytes 18; pyramid = byte_at bytes 22; spare = bytes_at bytes 23 5; dims = ds };
+  position = i64_at bytes 6;
+}
+
+-- the fields of an entry with n dimension records
+abbrev pub entry_fields : List ℕ → ℕ → Entry
+entry_fields bytes n = with_records bytes (dims n (drop 32 bytes))
+
 -- the DV entry at the front of the bytes
 unfoldable pub entry : List ℕ → Option Entry
 entry bytes = do
   count ← natural (i32_at bytes 28)
   part ← natural (i32_at bytes 14)
   given (bytes_eq (bytes_at bytes 0 2) (codes "DV") && (part == 0) && nat_le 1 count && nat_le count 40 && nat_le (32 + 20 * count) (length bytes))
-      (record {
-        info = record {
-          pixel = i32_at bytes 2;
-          compression = i32_at bytes 18;
-          pyramid = byte_at bytes 22;
-          spare = bytes_at bytes 23 5;
-          dims = dims count (drop 32 bytes);
-        };
-        position = i64_at bytes 6;
-      })
+      (entry_fields bytes count)
 
 -- the length of an entry
+abbrev pub info_len : EntryInfo → ℕ
+info_len info = 32 + 20 * length info.dims
+
 abbrev pub entry_len : Entry → ℕ
-entry_len e = 32 + 20 * length e.info.dims
+entry_len e = info_len e.info
 
 -- an entry, written
 abbrev pub dim_bytes : Dim → List ℕ
 dim_bytes d = d.name ++ (i32_bytes d.start ++ (i32_bytes d.size ++ (d.coord ++ i32_bytes d.stored)))
 
+-- the first 32 bytes
+abbrev pub head_bytes : EntryInfo → ℤ → List ℕ
+head_bytes info position = codes "DV" ++ (i32_bytes info.pixel ++ (i64_bytes position ++ (i32_bytes (pos 0) ++ (i32_bytes info.compression
+    ++ (info.pyramid ∷ info.spare ++ i32_bytes (pos (length info.dims)))))))
+
 abbrev pub entry_bytes : Entry → List ℕ
-entry_bytes e = codes "DV" ++ (i32_bytes e.info.pixel ++ (i64_bytes e.position ++ (i32_bytes (pos 0) ++ (i32_bytes e.info.compression
-    ++ (e.info.pyramid ∷ e.info.spare ++ (i32_bytes (pos (length e.info.dims)) ++ flat_map dim_bytes e.info.dims))))))
+entry_bytes e = head_bytes e.info e.position ++ flat_map dim_bytes e.info.dims
 
 -- what can be written: each field has its length and range
 pub record IsDim (d : Dim) : Type 0 where

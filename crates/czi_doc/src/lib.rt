@@ -1,0 +1,15 @@
+//! Items of a CZI document: dimensions, directory entries, attachments, and lists of bytes.
+#![tactic(auto)]
+
+mod dimensions;
+mod items;
+mod keys;
+mod writing;
+
+pub use dimensions::{Dim, Dims, ItemFault};
+pub use items::{AttInfo, Bytes, EntryInfo};
+pub use keys::{Key, equal_keys};
+pub use writing::write_dims;
+
+#[cfg(test)]
+mod tests;
