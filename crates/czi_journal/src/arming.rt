@@ -12,6 +12,9 @@ use crate::journal::{JOURNAL_LEN, Journal, MARK, Slot};
 use czi_links::SlotHead;
 use czi_rig::{Failed, File, Rig, write_synced};
 
+/// A journal of at least so many bytes could count, if its byte 0 were torn.
+const LONG: u64 = JOURNAL_LEN;
+
 /// Arms a void journal: slot A gets the record of the head without links, and is selected. What slot B gets isn't
 /// said. `buffer` has the bytes of a slot; what it then holds isn't said.
 ///
@@ -53,7 +56,7 @@ fn clear<R: Rig>(rig: &mut R) -> Result<(), Failed>
     ensures goes_on { GoesOn (R.state rig.old) (R.state rig.new) }
     ensures cause { OnErr result (Rose (R.state rig.old).journal_faults (R.state rig.new).journal_faults) }
 {
-    if rig.len(File::Journal)? >= JOURNAL_LEN {
+    if rig.len(File::Journal)? >= LONG {
         return Ok(());
     }
     write_synced(rig, File::Journal, 0, &[0])
