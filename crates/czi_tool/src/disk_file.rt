@@ -1,5 +1,5 @@
 // One file of the system, by its path.
-ghost use Rattle.std.specs.Prelude.{◌≡◌, ◌≤◌, ◌^◌, OnErr, OnOk, IfOk};
+ghost use Rattle.std.specs.Prelude.{◌≡◌, ◌≤◌, ◌^◌, OnErr, OnOk, IfOk, IsOk};
 ghost use Rattle.czi_rig.specs.Passes.{Rose};
 
 use czi_rig::Failed;
@@ -32,6 +32,9 @@ pub(crate) struct DiskFile {
 
 /// Counts a fault, and forgets what it was.
 pub(crate) fn counted<T: Drop>(faults: &mut u64, answer: io::Result<T>) -> Result<T, Failed>
+    ensures value { IfOk result (λ value. answer ≡ Ok value) }
+    ensures failed { IsOk answer → IsOk result }
+    ensures kept { OnOk result (faults.new ≡ faults.old) }
     ensures grows { faults.old ≤ faults.new }
     ensures cause { OnErr result (Rose faults.old faults.new) }
 {
@@ -195,6 +198,7 @@ impl DiskFile {
     /// The length in bytes, 0 of a missing file. A longer one than 2^62 is a fault.
     pub(crate) fn len(&mut self, rt: &HostRuntime) -> Result<u64, Failed>
         ensures bound { IfOk result (λ n. n ≤ 2 ^ 62) }
+        ensures kept { OnOk result (self.new.faults ≡ self.old.faults) }
         ensures grows { self.old.faults ≤ self.new.faults }
         ensures cause { OnErr result (Rose self.old.faults self.new.faults) }
     {
@@ -209,6 +213,7 @@ impl DiskFile {
         at: u64,
         into: &mut [u8],
     ) -> Result<(), Failed>
+        ensures kept { OnOk result (self.new.faults ≡ self.old.faults) }
         ensures grows { self.old.faults ≤ self.new.faults }
         ensures cause { OnErr result (Rose self.old.faults self.new.faults) }
     {
@@ -217,12 +222,8 @@ impl DiskFile {
     }
 
     /// Writes all of the bytes, into a file that is made where it is missing.
-    pub(crate) fn write_at(
-        &mut self,
-        rt: &HostRuntime,
-        at: u64,
-        bytes: &[u8],
-    ) -> Result<(), Failed>
+    pub(crate) fn write_at(&mut self, rt: &HostRuntime, at: u64, bytes: &[u8]) -> Result<(), Failed>
+        ensures kept { OnOk result (self.new.faults ≡ self.old.faults) }
         ensures grows { self.old.faults ≤ self.new.faults }
         ensures cause { OnErr result (Rose self.old.faults self.new.faults) }
     {
@@ -232,6 +233,7 @@ impl DiskFile {
 
     /// Sets the length, of a file that is made where it is missing.
     pub(crate) fn cut(&mut self, rt: &HostRuntime, len: u64) -> Result<(), Failed>
+        ensures kept { OnOk result (self.new.faults ≡ self.old.faults) }
         ensures grows { self.old.faults ≤ self.new.faults }
         ensures cause { OnErr result (Rose self.old.faults self.new.faults) }
     {
@@ -241,6 +243,7 @@ impl DiskFile {
 
     /// Syncs the file with its length, and the folder where it was made and that failed. A missing file needs none.
     pub(crate) fn sync(&mut self, rt: &HostRuntime) -> Result<(), Failed>
+        ensures kept { OnOk result (self.new.faults ≡ self.old.faults) }
         ensures grows { self.old.faults ≤ self.new.faults }
         ensures cause { OnErr result (Rose self.old.faults self.new.faults) }
     {

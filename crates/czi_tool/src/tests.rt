@@ -19,11 +19,17 @@ fn missing_file_is_empty_and_made_by_the_first_write(rt: HostRuntime) -> Result<
     assert_eq!(rt; rig.sync(File::Image), Ok(()));
     assert!(rt; !fs::exists(&rt, "image.czi")?);
     assert_eq!(rt; rig.write_at(File::Image, 0, b"abcdef"), Ok(()));
-    assert_eq!(rt; fs::read(&rt, "image.czi")?.as_slice(), b"abcdef".as_slice());
+    assert_eq!(rt;
+        fs::read(&rt, "image.czi")?.as_slice(),
+        b"abcdef".as_slice()
+    );
     assert!(rt; !fs::exists(&rt, "image.czi.jrn")?);
     assert_eq!(rt; rig.cut(File::Journal, 0), Ok(()));
     assert_eq!(rt; fs::read(&rt, "image.czi.jrn")?.len(), 0);
-    assert_eq!(rt; (rig.image.faults, rig.journal.faults, rig.output_faults), (0, 0, 0));
+    assert_eq!(rt;
+        (rig.image.faults, rig.journal.faults, rig.output_faults),
+        (0, 0, 0)
+    );
     Ok(())
 }
 
@@ -42,9 +48,15 @@ fn file_has_what_was_written_and_cut(rt: HostRuntime) -> Result<(), Fail> {
     assert_eq!(rt; rig.cut(File::Image, 7), Ok(()));
     assert_eq!(rt; rig.sync(File::Image), Ok(()));
     assert_eq!(rt; rig.len(File::Image), Ok(7));
-    assert_eq!(rt; fs::read(&rt, "image.czi")?.as_slice(), b"abcdEFG".as_slice());
+    assert_eq!(rt;
+        fs::read(&rt, "image.czi")?.as_slice(),
+        b"abcdEFG".as_slice()
+    );
     assert_eq!(rt; rig.say(b"said\n"), Ok(()));
-    assert_eq!(rt; (rig.image.faults, rig.journal.faults, rig.output_faults), (0, 0, 0));
+    assert_eq!(rt;
+        (rig.image.faults, rig.journal.faults, rig.output_faults),
+        (0, 0, 0)
+    );
     Ok(())
 }
 
@@ -61,7 +73,10 @@ fn refusal_of_the_system_is_counted(rt: HostRuntime) -> Result<(), Fail> {
     assert_eq!(rt; rig.cut(File::Image, 0), Err(Failed));
     assert_eq!(rt; rig.read_at(File::Journal, 0, &mut four), Err(Failed));
     assert_eq!(rt; rig.read_at(File::Journal, 3, &mut four), Err(Failed));
-    assert_eq!(rt; (rig.image.faults, rig.journal.faults, rig.output_faults), (3, 2, 0));
+    assert_eq!(rt;
+        (rig.image.faults, rig.journal.faults, rig.output_faults),
+        (3, 2, 0)
+    );
     Ok(())
 }
 
