@@ -7,6 +7,8 @@ mod looking;
 mod refusal;
 mod segment;
 mod stop;
+#[cfg(test)]
+mod tests;
 mod text;
 mod tiles;
 mod top;
