@@ -12,20 +12,17 @@ fn rig_over(rt: &HostRuntime, path: &str, journal_path: &str) -> Result<FileRig,
 
 #[test]
 fn missing_file_is_empty_and_made_by_the_first_write(rt: HostRuntime) -> Result<(), Fail> {
-    let mut rig = rig_over(&rt, "image.czi", "image.czi.jrn")?;
+    let mut rig = rig_over(&rt, "new.czi", "new.czi.jrn")?;
     let mut none = [0u8; 0];
     assert_eq!(rt; rig.len(File::Image), Ok(0));
     assert_eq!(rt; rig.read_at(File::Image, 0, &mut none), Ok(()));
     assert_eq!(rt; rig.sync(File::Image), Ok(()));
-    assert!(rt; !fs::exists(&rt, "image.czi")?);
+    assert!(rt; !fs::exists(&rt, "new.czi")?);
     assert_eq!(rt; rig.write_at(File::Image, 0, b"abcdef"), Ok(()));
-    assert_eq!(rt;
-        fs::read(&rt, "image.czi")?.as_slice(),
-        b"abcdef".as_slice()
-    );
-    assert!(rt; !fs::exists(&rt, "image.czi.jrn")?);
+    assert_eq!(rt; fs::read(&rt, "new.czi")?.as_slice(), b"abcdef".as_slice());
+    assert!(rt; !fs::exists(&rt, "new.czi.jrn")?);
     assert_eq!(rt; rig.cut(File::Journal, 0), Ok(()));
-    assert_eq!(rt; fs::read(&rt, "image.czi.jrn")?.len(), 0);
+    assert_eq!(rt; fs::read(&rt, "new.czi.jrn")?.len(), 0);
     assert_eq!(rt;
         (rig.image.faults, rig.journal.faults, rig.output_faults),
         (0, 0, 0)
