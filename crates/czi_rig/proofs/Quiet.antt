@@ -1,10 +1,10 @@
 -- How calls that leave everything as it was follow one another.
-use Rattle.std.proofs.Common.{◌≡◌, ℕ, ◌≤◌, List, IsTrue, ⊎_elim, ◌∙◌, refl, subst, sym, arith}
+use Rattle.std.proofs.Common.{IsTrue, ⊎_elim, ◌∙◌, refl, subst, sym, arith}
 use Rattle.czi_rig.specs.declared.rig.Rig.{Ghosts}
-use Rattle.czi_rig.specs.State.{State, SameAll, MayLeave}
-use Rattle.czi_rig.specs.Passes.{Passes, GoesOn}
-use Rattle.czi_rig.specs.Moments.{CountsNow, Throughout}
-use Rattle.czi_rig.specs.Quiet.{AddsNothing, Untouched}
+use Rattle.czi_rig.specs.State.{SameAll, MayLeave}
+use Rattle.czi_rig.specs.Passes.{Passes}
+use Rattle.czi_rig.specs.Moments.{CountsNow}
+use Rattle.czi_rig.specs.Quiet.{Untouched}
 
 module _ {D : Type 0} (rig : Ghosts D) where
   -- `len` or `read_at`, also where it fails
