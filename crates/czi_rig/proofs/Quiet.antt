@@ -1,10 +1,15 @@
 -- How calls that leave everything as it was follow one another.
-use Rattle.std.proofs.Common.{IsTrue, ⊎_elim, ◌∙◌, refl, subst, sym, arith}
+use Rattle.std.proofs.Common.{◌≡◌, ℕ, ◌≤◌, inl, Some, List, IsTrue, ⊎_elim, ◌∙◌, refl, subst, sym, arith}
 use Rattle.czi_rig.specs.declared.rig.Rig.{Ghosts}
-use Rattle.czi_rig.specs.State.{SameAll, MayLeave}
-use Rattle.czi_rig.specs.Passes.{Passes}
-use Rattle.czi_rig.specs.Moments.{CountsNow}
-use Rattle.czi_rig.specs.Quiet.{Untouched}
+use Rattle.czi_rig.specs.State.{State, Instant, SameAll, MayLeave}
+use Rattle.czi_rig.specs.Passes.{Passes, GoesOn}
+use Rattle.czi_rig.specs.Moments.{Devices, devices, all_of, CountsNow, Throughout, Run}
+use Rattle.czi_rig.specs.Quiet.{AddsNothing, Untouched}
+use Rattle.czi_rig.proofs.Known.{is_honest}
+
+-- what is told stays so
+pub devices_same : (s t : State) → SameAll s t → devices t ≡ devices s
+devices_same s t same = λ i. all_of (same.image i) (same.journal i) (same.said i)
 
 module _ {D : Type 0} (rig : Ghosts D) where
   -- `len` or `read_at`, also where it fails
@@ -39,4 +44,11 @@ module _ {D : Type 0} (rig : Ghosts D) where
     same = record { image = refl; journal = refl; said = refl };
     goes_on = record { honest = refl; tells_image = refl; tells_journal = refl; tells_said = refl; image_faults = omega arith; journal_faults = omega arith; output_faults = omega arith; later = omega arith };
     moments = λ honest t i j o le left. left;
+  }
+
+  -- a run that has left everything as it was so far
+  pub untouched_run : {first now : D} {all : Devices} {P : Instant} → devices (rig.state first) ≡ Some all → Untouched rig first now → Run rig first now all P
+  untouched_run {first = first} {now = now} {all = all} is u = record {
+    known = devices_same (rig.state first) (rig.state now) u.same ∙ is;
+    moments = record { later = u.goes_on.later; each = λ t i j o le left. inl (u.moments (is_honest (rig.state first) all is) t i j o le left) };
   }
