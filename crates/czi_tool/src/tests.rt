@@ -4,6 +4,13 @@ use czi_rig::{Failed, File, Rig, Source};
 use std::fs;
 use std::test::Fail;
 
+// Removes what an earlier run has left.
+fn clear(rt: &HostRuntime, paths: &[&str]) {
+    for path in paths {
+        let _ = fs::remove_file(rt, *path);
+    }
+}
+
 fn rig_over(rt: &HostRuntime, path: &str, journal_path: &str) -> Result<FileRig, Fail> {
     let path = String::from_str(rt.alloc(), path)?;
     let journal_path = String::from_str(rt.alloc(), journal_path)?;
@@ -12,6 +19,7 @@ fn rig_over(rt: &HostRuntime, path: &str, journal_path: &str) -> Result<FileRig,
 
 #[test]
 fn missing_file_is_empty_and_made_by_the_first_write(rt: HostRuntime) -> Result<(), Fail> {
+    clear(&rt, &["new.czi", "new.czi.jrn"]);
     let mut rig = rig_over(&rt, "new.czi", "new.czi.jrn")?;
     let mut none = [0u8; 0];
     assert_eq!(rt; rig.len(File::Image), Ok(0));
@@ -27,6 +35,7 @@ fn missing_file_is_empty_and_made_by_the_first_write(rt: HostRuntime) -> Result<
         (rig.image.faults, rig.journal.faults, rig.output_faults),
         (0, 0, 0)
     );
+    clear(&rt, &["new.czi", "new.czi.jrn"]);
     Ok(())
 }
 
@@ -54,6 +63,7 @@ fn file_has_what_was_written_and_cut(rt: HostRuntime) -> Result<(), Fail> {
         (rig.image.faults, rig.journal.faults, rig.output_faults),
         (0, 0, 0)
     );
+    clear(&rt, &["image.czi"]);
     Ok(())
 }
 
@@ -74,10 +84,11 @@ fn refusal_of_the_system_is_counted(rt: HostRuntime) -> Result<(), Fail> {
         (rig.image.faults, rig.journal.faults, rig.output_faults),
         (3, 2, 0)
     );
+    clear(&rt, &["short.czi"]);
     Ok(())
 }
 
-// A test's standard input is empty.
+// As far as a test can show it: its standard input is empty.
 #[test]
 fn source_tells_the_end_of_the_input(rt: HostRuntime) -> Result<(), Fail> {
     let mut source = InputSource::new(rt.clone()?);
