@@ -4,6 +4,13 @@ use czi_rig::{Failed, File, Rig, Source};
 use std::fs;
 use std::test::Fail;
 
+// Removes what an earlier run has left.
+fn clear(rt: &HostRuntime, paths: &[&str]) {
+    for path in paths {
+        let _ = fs::remove_file(rt, *path);
+    }
+}
+
 fn rig_over(rt: &HostRuntime, path: &str, journal_path: &str) -> Result<FileRig, Fail> {
     let path = String::from_str(rt.alloc(), path)?;
     let journal_path = String::from_str(rt.alloc(), journal_path)?;
@@ -12,24 +19,23 @@ fn rig_over(rt: &HostRuntime, path: &str, journal_path: &str) -> Result<FileRig,
 
 #[test]
 fn missing_file_is_empty_and_made_by_the_first_write(rt: HostRuntime) -> Result<(), Fail> {
-    let mut rig = rig_over(&rt, "image.czi", "image.czi.jrn")?;
+    clear(&rt, &["new.czi", "new.czi.jrn"]);
+    let mut rig = rig_over(&rt, "new.czi", "new.czi.jrn")?;
     let mut none = [0u8; 0];
     assert_eq!(rt; rig.len(File::Image), Ok(0));
     assert_eq!(rt; rig.read_at(File::Image, 0, &mut none), Ok(()));
     assert_eq!(rt; rig.sync(File::Image), Ok(()));
-    assert!(rt; !fs::exists(&rt, "image.czi")?);
+    assert!(rt; !fs::exists(&rt, "new.czi")?);
     assert_eq!(rt; rig.write_at(File::Image, 0, b"abcdef"), Ok(()));
-    assert_eq!(rt;
-        fs::read(&rt, "image.czi")?.as_slice(),
-        b"abcdef".as_slice()
-    );
-    assert!(rt; !fs::exists(&rt, "image.czi.jrn")?);
+    assert_eq!(rt; fs::read(&rt, "new.czi")?.as_slice(), b"abcdef".as_slice());
+    assert!(rt; !fs::exists(&rt, "new.czi.jrn")?);
     assert_eq!(rt; rig.cut(File::Journal, 0), Ok(()));
-    assert_eq!(rt; fs::read(&rt, "image.czi.jrn")?.len(), 0);
+    assert_eq!(rt; fs::read(&rt, "new.czi.jrn")?.len(), 0);
     assert_eq!(rt;
         (rig.image.faults, rig.journal.faults, rig.output_faults),
         (0, 0, 0)
     );
+    clear(&rt, &["new.czi", "new.czi.jrn"]);
     Ok(())
 }
 
@@ -57,6 +63,7 @@ fn file_has_what_was_written_and_cut(rt: HostRuntime) -> Result<(), Fail> {
         (rig.image.faults, rig.journal.faults, rig.output_faults),
         (0, 0, 0)
     );
+    clear(&rt, &["image.czi"]);
     Ok(())
 }
 
@@ -77,10 +84,11 @@ fn refusal_of_the_system_is_counted(rt: HostRuntime) -> Result<(), Fail> {
         (rig.image.faults, rig.journal.faults, rig.output_faults),
         (3, 2, 0)
     );
+    clear(&rt, &["short.czi"]);
     Ok(())
 }
 
-// A test's standard input is empty.
+// As far as a test can show it: its standard input is empty.
 #[test]
 fn source_tells_the_end_of_the_input(rt: HostRuntime) -> Result<(), Fail> {
     let mut source = InputSource::new(rt.clone()?);
