@@ -1,0 +1,4 @@
+pub mod Edited
+pub mod Parts
+pub mod Counted
+pub mod Ordered
