@@ -1,10 +1,10 @@
 -- What is read from a window is what is read from the image.
-use Rattle.std.proofs.Common.{◌≡◌, ℕ, zero, suc, ◌+◌, ◌≤◌, ◌<◌, ℤ, pos, negsuc, take, drop, List, length, nat_le, Bool, true, false, ◌&&◌, Option, Some, None, option_map, MatchOption, refl, ap, sym, ◌∙◌, arith}
-use Rattle.std.proofs.lemmas.Bool.{leb-true, lt-leb}
+use Rattle.std.proofs.Common.{◌≡◌, ℕ, zero, suc, ◌+◌, ◌≤◌, ◌<◌, ℤ, pos, negsuc, take, drop, List, length, nat_le, Bool, true, false, ◌&&◌, Option, Some, None, option_map, MatchOption, bytes_eq, refl, ap, sym, ◌∙◌, arith}
+use Rattle.std.proofs.lemmas.Bool.{leb-true, le-leb, lt-leb}
 use Rattle.czi_format.specs.Bytes.{bytes_at, i32_at, i64_at}
 use Rattle.czi_format.specs.Partial.{◌>>=◌, natural, given, none_or}
 use Rattle.czi_format.specs.Segment.{Segment, header_at, segment_at, sound_segment, in_segment, file_id, directory_id}
-use Rattle.czi_format.specs.Live.{FileHeader, Directory, file_header, directory, update_pending}
+use Rattle.czi_format.specs.Live.{FileHeader, Directory, file_header, has_header_sizes, header_fields, directory, update_pending}
 use Rattle.czi_format.specs.Contents.{entry_count}
 use Rattle.czi_format.proofs.Local.{part_of_part}
 use Rattle.czi_format.proofs.Readings.{is_sound, segment_stands}
@@ -44,22 +44,31 @@ sound_in_window image id at n fits = let same : segment_in (bytes_at image at n)
 abbrev front_of : List ℕ → FileHeader → Front
 front_of image h = record { part = h.part; directory = h.directory; pending = update_pending image }
 
-map_given : {A B : Type 0} (f : A → B) (b : Bool) (x : A) → given b (f x) ≡ option_map f (given b x)
-map_given f true x = refl
-map_given f false x = refl
+-- the tests of a file header in either order
+header_found : (image : List ℕ) (o : Option Segment) → 112 ≤ length image
+    → (o >>= λ s. given (nat_le (32 + s.allocated) (length image)) s) >>= (λ s. given (bytes_eq s.id file_id && has_header_sizes s) (front_of image (header_fields image s)))
+    ≡ option_map (front_of image) ((o >>= λ s. given (nat_le 112 (length image) && bytes_eq s.id file_id && has_header_sizes s) (header_fields image s)) >>= (λ h. given (nat_le (32 + h.segment.allocated) (length image)) h))
+header_found image None long = refl
+header_found image (Some s) long =
+    let room : nat_le 112 (length image) ≡ true = le-leb _ _ long in
+    rw room (by_tests (nat_le (32 + s.allocated) (length image)) (bytes_eq s.id file_id && has_header_sizes s) refl refl)
+  where
+    by_tests : (t c : Bool) → nat_le (32 + s.allocated) (length image) ≡ t → (bytes_eq s.id file_id && has_header_sizes s) ≡ c
+        → (given (nat_le (32 + s.allocated) (length image)) s >>= (λ r. given (bytes_eq r.id file_id && has_header_sizes r) (front_of image (header_fields image r))))
+        ≡ option_map (front_of image) (given (bytes_eq s.id file_id && has_header_sizes s) (header_fields image s) >>= (λ h. given (nat_le (32 + h.segment.allocated) (length image)) h))
+    by_tests true true fits holds = rw (fits, holds, fits)
+    by_tests true false fits holds = rw (fits, holds)
+    by_tests false true fits holds = rw (fits, holds, fits)
+    by_tests false false fits holds = rw (fits, holds)
 
-map_bind : {A B C : Type 0} (f : B → C) (o : Option A) (g : A → Option C) (h : A → Option B) → ((x : A) → g x ≡ option_map f (h x)) → o >>= g ≡ option_map f (o >>= h)
-map_bind f None g h same = refl
-map_bind f (Some x) g h same = same x
-
-pub front_in_window : (image : List ℕ) → front_in (bytes_at image 0 112) (length image) ≡ option_map (front_of image) (file_header image)
-unfolding front_in file_header
-front_in_window image =
-    let sound : sound_in (bytes_at image 0 112) file_id 0 (length image) ≡ sound_segment image file_id (pos 0) = sound_in_window image file_id 0 112 (omega arith) in
+pub front_in_window : (image : List ℕ) → 112 ≤ length image → front_in (bytes_at image 0 112) (length image) ≡ option_map (front_of image) (file_header image)
+unfolding front_in file_header segment_at
+front_in_window image long =
+    let segment : segment_in (bytes_at image 0 112) 0 (length image) ≡ segment_at image 0 = segment_in_window image 0 112 (omega arith) in
     let part : i32_at (bytes_at image 0 112) 80 ≡ i32_at image 80 = i32_in_window image 0 112 80 (omega arith) in
     let dir : i64_at (bytes_at image 0 112) 84 ≡ i64_at image 84 = i64_in_window image 0 112 84 (omega arith) in
     let pending : i32_at (bytes_at image 0 112) 100 ≡ i32_at image 100 = i32_in_window image 0 112 100 (omega arith) in
-    simp (sound, part, dir, pending) (map_bind (front_of image) (sound_segment image file_id (pos 0)) _ _ (λ s. map_given (front_of image) _ _))
+    simp (segment, part, dir, pending) (header_found image (header_at image 0) long)
 
 shown : (image : List ℕ) (o : Option Header) (p : Option FileHeader) → file_header image ≡ p → option_map header_view o ≡ option_map (front_of image) p → MatchOption o (file_header image ≡ None) (ShowsHeader image)
 shown image None None is same = is
@@ -74,13 +83,8 @@ shown image (Some h) (Some f) is same = let e : header_view h ≡ front_of image
 }
 
 -- the header that was read from the first 112 bytes is the image's
-pub header_shown : (image : List ℕ) (o : Option Header) → option_map header_view o ≡ front_in (bytes_at image 0 112) (length image) → MatchOption o (file_header image ≡ None) (ShowsHeader image)
-header_shown image o same = shown image o (file_header image) refl (same ∙ front_in_window image)
-
-no_segment : (o : Option Segment) → ((s : Segment) → o ≡ Some s → nat_le 80 s.allocated ≡ false)
-    → (f : Segment → FileHeader) (t : Segment → Bool) → o >>= (λ s. given (nat_le 80 s.allocated && t s) (f s)) ≡ None
-no_segment None small f t = refl
-no_segment (Some s) small f t = let no : nat_le 80 s.allocated ≡ false = small s refl in rw no
+pub header_shown : (image : List ℕ) (o : Option Header) → 112 ≤ length image → option_map header_view o ≡ front_in (bytes_at image 0 112) (length image) → MatchOption o (file_header image ≡ None) (ShowsHeader image)
+header_shown image o long same = shown image o (file_header image) refl (same ∙ front_in_window image long)
 
 -- a segment that was found ends in the image
 sound_inside : (image id : List ℕ) (at : ℕ) (s : Segment) → sound_segment image id (pos at) ≡ Some s → (s.at ≡ at) × (at + 32 + s.allocated ≤ length image)
@@ -93,8 +97,11 @@ sound_inside image id at s found =
 -- below 112 bytes there is no file header
 pub no_header : (image : List ℕ) → length image < 112 → file_header image ≡ None
 unfolding file_header
-no_header image short = no_segment (sound_segment image file_id (pos 0))
-    (λ s is. let inside = sound_inside image file_id 0 s is in lt-leb 80 s.allocated (omega (arith, inside.1))) _ _
+no_header image short = let small : nat_le 112 (length image) ≡ false = lt-leb 112 (length image) short in rw small (nothing (header_at image 0))
+  where
+    nothing : (o : Option Segment) → (o >>= λ s. given (false && bytes_eq s.id file_id && has_header_sizes s) (header_fields image s)) >>= (λ h. given (nat_le (32 + h.segment.allocated) (length image)) h) ≡ None
+    nothing None = refl
+    nothing (Some s) = refl
 
 -- the same count, or too little data
 same_count : (s : Segment) (a b : Option ℕ) → (128 ≤ s.allocated → a ≡ b)
@@ -142,10 +149,10 @@ no_directory image at short = each_found (sound_segment image directory_id (pos 
     no_count (Some n) s = refl
 
 -- the same of what was read
-pub front_shown : (image front : List ℕ) (n : ℕ) (o : Option Header) → n ≡ length image → front ≡ take 112 image → option_map header_view o ≡ front_in front n
+pub front_shown : (image front : List ℕ) (n : ℕ) (o : Option Header) → 112 ≤ n → n ≡ length image → front ≡ take 112 image → option_map header_view o ≡ front_in front n
     → MatchOption o (file_header image ≡ None) (ShowsHeader image)
 unfolding bytes_at
-front_shown image front n o long read same = header_shown image o (same ∙ ap (λ (m : ℕ). front_in front m) long ∙ ap (λ (f : List ℕ). front_in f (length image)) read)
+front_shown image front n o room long read same = header_shown image o (omega (arith, room, long)) (same ∙ ap (λ (m : ℕ). front_in front m) long ∙ ap (λ (f : List ℕ). front_in f (length image)) read)
 
 pub directory_shown : (image front : List ℕ) (at n : ℕ) → n ≡ length image → front ≡ take 36 (drop at image) → directory_in front at n ≡ in_segment image directory_id (pos at) directory
 unfolding bytes_at

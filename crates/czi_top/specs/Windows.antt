@@ -1,9 +1,9 @@
 -- What the program reads from a window of the image, in place of the whole byte list.
-use Rattle.std.specs.Prelude.{ℕ, ◌+◌, ℤ, List, ◌&&◌, ◌||◌, ◌==◌, nat_le, Option, bytes_eq}
+use Rattle.std.specs.Prelude.{ℕ, ◌+◌, ℤ, List, ◌&&◌, nat_le, Option, bytes_eq}
 use Rattle.czi_format.specs.Bytes.{bytes_at, i32_at, i64_at}
 use Rattle.czi_format.specs.Partial.{◌>>=◌, natural, given}
 use Rattle.czi_format.specs.Segment.{Segment, file_id, directory_id}
-use Rattle.czi_format.specs.Live.{Directory}
+use Rattle.czi_format.specs.Live.{Directory, has_header_sizes}
 
 -- the segment at a place of an image of n bytes, whose header is the front of the window
 unfoldable pub segment_in : List ℕ → ℕ → ℕ → Option Segment
@@ -23,10 +23,11 @@ pub record Front : Type 0 where
   pub directory : ℤ
   pub pending : ℤ
 
+-- the file header whose first 112 bytes are the window
 unfoldable pub front_in : List ℕ → ℕ → Option Front
 front_in front n = do
-  segment ← sound_in front file_id 0 n
-  given (nat_le 80 segment.allocated && ((segment.used == 0) || nat_le 80 segment.used)) (record {
+  segment ← segment_in front 0 n
+  given (bytes_eq segment.id file_id && has_header_sizes segment) (record {
     part = i32_at front 80;
     directory = i64_at front 84;
     pending = i32_at front 100;

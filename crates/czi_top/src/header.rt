@@ -4,11 +4,12 @@ ghost use Rattle.std.specs.Option.{ForSome};
 ghost use Rattle.czi_rig.specs.State.{seen_of};
 ghost use Rattle.czi_rig.specs.Passes.{HasCause};
 ghost use Rattle.czi_rig.specs.Quiet.{Untouched};
-ghost use Rattle.czi_format.specs.Live.{file_header};
+ghost use Rattle.czi_format.specs.Live.{file_header, has_header_sizes};
+ghost use Rattle.czi_top.specs.View.{segment_view};
 ghost use Rattle.czi_top.specs.Found.{header_view, ShowsHeader};
 ghost use Rattle.czi_top.specs.Windows.{front_in};
 
-use crate::segment::sound_in;
+use crate::segment::{Segment, segment_in};
 use czi_num::{read_i32, read_i64};
 use czi_rig::{Failed, File, Rig};
 
@@ -22,6 +23,14 @@ pub(crate) struct Header {
     pub(crate) pending: i32,
 }
 
+/// At least 80 bytes of data, and sound sizes; a UsedSize of 0 reads as AllocatedSize.
+fn has_header_sizes(segment: &Segment) -> bool
+    ensures { result ≡ has_header_sizes (segment_view segment.now) }
+{
+    80 <= segment.allocated
+        && (segment.used == 0 || (80 <= segment.used && segment.used <= segment.allocated))
+}
+
 /// The header in the first 112 bytes of an image of this length.
 #[tactic(auto, unfolding(crate::specs::Windows::front_in, czi_format::specs::Segment::file_id))]
 fn header_in(front: &[u8], size: u64) -> Option<Header>
@@ -29,9 +38,9 @@ fn header_in(front: &[u8], size: u64) -> Option<Header>
     requires inside { 32 ≤ size }
     ensures { option_map header_view result ≡ front_in front.now size }
 {
-    let segment = sound_in(front, &FILE_ID, 0, size)?;
-    let is_sized = 80 <= segment.allocated && (segment.used == 0 || 80 <= segment.used);
-    if !is_sized {
+    let segment = segment_in(front, 0, size)?;
+    let is_header = segment.id == FILE_ID && has_header_sizes(&segment);
+    if !is_header {
         return None;
     }
     Some(Header {

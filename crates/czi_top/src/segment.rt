@@ -44,7 +44,7 @@ fn read_id(bytes: &[u8]) -> [u8; 16]
 
 /// The segment at a place of an image of this length, whose header is the front of the window.
 #[tactic(auto, unfolding(crate::specs::Windows::segment_in))]
-fn segment_in(front: &[u8], at: u64, size: u64) -> Option<Segment>
+pub(crate) fn segment_in(front: &[u8], at: u64, size: u64) -> Option<Segment>
     requires window { 32 ≤ length front.now }
     requires inside { at + 32 ≤ size }
     ensures found { option_map segment_view result ≡ segment_in front.now at size }
