@@ -13,6 +13,7 @@ pub struct InputSource {
 }
 
 impl InputSource {
+    /// The source over standard input, no byte of which it has read yet.
     pub fn new(rt: HostRuntime) -> InputSource
         ensures { result.faults ≡ 0 }
     {
