@@ -88,3 +88,72 @@ fn natural_64(stored: i64) -> Option<u64>
         Some(stored as u64)
     }
 }
+
+#[cfg(test)]
+mod tests {
+    use super::*;
+
+    #[test]
+    fn fronts_of_subblocks_are_read(rt: HostRuntime) {
+        // A tile of 8 bytes of pixels with three dimension records, and one with 25.
+        let mut bytes = [0u8; 48];
+        bytes[8] = 8;
+        bytes[44] = 3;
+        assert_eq!(rt;
+            read_sub_head(&bytes),
+            Some(SubHead {
+                meta: 0,
+                pixels: 8,
+                tail: 0,
+                begin: 256
+            })
+        );
+        bytes[1] = 0x10;
+        bytes[4] = 7;
+        bytes[12] = 1;
+        bytes[44] = 25;
+        assert_eq!(rt;
+            read_sub_head(&bytes),
+            Some(SubHead {
+                meta: 4096,
+                pixels: 0x1_0000_0008,
+                tail: 7,
+                begin: 548
+            })
+        );
+        bytes[44] = 40;
+        assert_eq!(rt; read_sub_head(&bytes).map(|h| h.begin), Some(848));
+        bytes[44] = 41;
+        assert_eq!(rt; read_sub_head(&bytes), None);
+        bytes[44] = 0;
+        assert_eq!(rt; read_sub_head(&bytes).map(|h| h.begin), Some(256));
+        bytes[47] = 0x80;
+        assert_eq!(rt; read_sub_head(&bytes), None);
+    }
+
+    #[test]
+    fn negative_sizes_of_subblocks_are_refused(rt: HostRuntime) {
+        let mut meta = [0u8; 48];
+        meta[3] = 0x80;
+        let mut tail = [0u8; 48];
+        tail[7] = 0xFF;
+        let mut pixels = [0u8; 48];
+        pixels[15] = 0x80;
+        assert_eq!(rt; read_sub_head(&meta), None);
+        assert_eq!(rt; read_sub_head(&tail), None);
+        assert_eq!(rt; read_sub_head(&pixels), None);
+    }
+
+    #[test]
+    fn fronts_of_metadata_are_read(rt: HostRuntime) {
+        assert_eq!(rt;
+            read_meta_head(&[0x40, 0x9C, 0, 0, 5, 0, 0, 0]),
+            Some(MetaHead {
+                xml: 40000,
+                tail: 5
+            })
+        );
+        assert_eq!(rt; read_meta_head(&[0, 0, 0, 0x80, 5, 0, 0, 0]), None);
+        assert_eq!(rt; read_meta_head(&[0, 0, 0, 0, 5, 0, 0, 0xFF]), None);
+    }
+}
