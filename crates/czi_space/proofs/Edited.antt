@@ -18,7 +18,7 @@ set_one f [] i y h = absurd (omega arith)
 set_one f (x ∷ xs) zero y h = refl
 set_one f (x ∷ xs) (suc i) y h = ap (λ l. f x ∷ l) (set_one f xs i y (omega arith))
 
-insert_one : {X Y : Type 0} (f : X → Y) (xs : List X) (i : ℕ) (y : X) → i ≤ length xs → map f (insert xs i y) ≡ take i (map f xs) ++ (f y ∷ drop i (map f xs))
+pub insert_one : {X Y : Type 0} (f : X → Y) (xs : List X) (i : ℕ) (y : X) → i ≤ length xs → map f (insert xs i y) ≡ take i (map f xs) ++ (f y ∷ drop i (map f xs))
 insert_one f xs zero y h = refl
 insert_one f [] (suc i) y h = absurd (omega arith)
 insert_one f (x ∷ xs) (suc i) y h = ap (λ l. f x ∷ l) (insert_one f xs i y (omega arith))
@@ -28,7 +28,7 @@ set_two f [] i y z h = absurd (omega arith)
 set_two f (x ∷ xs) zero y z h = refl
 set_two f (x ∷ xs) (suc i) y z h = ap (λ l. f x ∷ l) (set_two f xs i y z (omega arith))
 
-remove_one : {X Y : Type 0} (f : X → Y) (xs : List X) (i : ℕ) → i < length xs → map f (take i xs ++ drop (suc i) xs) ≡ take i (map f xs) ++ drop (suc i) (map f xs)
+pub remove_one : {X Y : Type 0} (f : X → Y) (xs : List X) (i : ℕ) → i < length xs → map f (take i xs ++ drop (suc i) xs) ≡ take i (map f xs) ++ drop (suc i) (map f xs)
 remove_one f [] i h = absurd (omega arith)
 remove_one f (x ∷ xs) zero h = refl
 remove_one f (x ∷ xs) (suc i) h = ap (λ l. f x ∷ l) (remove_one f xs i (omega arith))
@@ -49,9 +49,9 @@ pub replaced_both : {X : Type 0} (f : X → Span) (xs : List X) (i : ℕ) (y z :
 replaced_both f xs i y z h p q =
     let one : i + 1 ≡ suc i = omega arith in
     ap (λ n. map f (insert (set xs i y) n z)) one ∙ (set_two f xs i y z h ∙ sym (
-      ap (λ n. take i (map f xs) ++ (some_of (f y) ++ (some_of (f z) ++ drop n (map f xs)))) one
-      ∙ (ap (λ l. take i (map f xs) ++ (l ++ (some_of (f z) ++ drop (suc i) (map f xs)))) (some_one (f y) p)
-      ∙ ap (λ l. take i (map f xs) ++ (f y ∷ (l ++ drop (suc i) (map f xs)))) (some_one (f z) q))
+    ap (λ n. take i (map f xs) ++ (some_of (f y) ++ (some_of (f z) ++ drop n (map f xs)))) one
+    ∙ (ap (λ l. take i (map f xs) ++ (l ++ (some_of (f z) ++ drop (suc i) (map f xs)))) (some_one (f y) p)
+    ∙ ap (λ l. take i (map f xs) ++ (f y ∷ (l ++ drop (suc i) (map f xs)))) (some_one (f z) q))
     ))
 
 pub replaced_first : {X : Type 0} (f : X → Span) (xs : List X) (i : ℕ) (y z : X) → i < length xs → 0 < (f y).len → (f z).len ≤ 0
@@ -59,9 +59,9 @@ pub replaced_first : {X : Type 0} (f : X → Span) (xs : List X) (i : ℕ) (y z 
 replaced_first f xs i y z h p q =
     let one : i + 1 ≡ suc i = omega arith in
     set_one f xs i y h ∙ sym (
-      ap (λ n. take i (map f xs) ++ (some_of (f y) ++ (some_of (f z) ++ drop n (map f xs)))) one
-      ∙ (ap (λ l. take i (map f xs) ++ (l ++ (some_of (f z) ++ drop (suc i) (map f xs)))) (some_one (f y) p)
-      ∙ ap (λ l. take i (map f xs) ++ (f y ∷ (l ++ drop (suc i) (map f xs)))) (some_none (f z) q))
+    ap (λ n. take i (map f xs) ++ (some_of (f y) ++ (some_of (f z) ++ drop n (map f xs)))) one
+    ∙ (ap (λ l. take i (map f xs) ++ (l ++ (some_of (f z) ++ drop (suc i) (map f xs)))) (some_one (f y) p)
+    ∙ ap (λ l. take i (map f xs) ++ (f y ∷ (l ++ drop (suc i) (map f xs)))) (some_none (f z) q))
     )
 
 pub replaced_second : {X : Type 0} (f : X → Span) (xs : List X) (i : ℕ) (y z : X) → i < length xs → (f y).len ≤ 0 → 0 < (f z).len
@@ -69,9 +69,9 @@ pub replaced_second : {X : Type 0} (f : X → Span) (xs : List X) (i : ℕ) (y z
 replaced_second f xs i y z h p q =
     let one : i + 1 ≡ suc i = omega arith in
     set_one f xs i z h ∙ sym (
-      ap (λ n. take i (map f xs) ++ (some_of (f y) ++ (some_of (f z) ++ drop n (map f xs)))) one
-      ∙ (ap (λ l. take i (map f xs) ++ (l ++ (some_of (f z) ++ drop (suc i) (map f xs)))) (some_none (f y) p)
-      ∙ ap (λ l. take i (map f xs) ++ (l ++ drop (suc i) (map f xs))) (some_one (f z) q))
+    ap (λ n. take i (map f xs) ++ (some_of (f y) ++ (some_of (f z) ++ drop n (map f xs)))) one
+    ∙ (ap (λ l. take i (map f xs) ++ (l ++ (some_of (f z) ++ drop (suc i) (map f xs)))) (some_none (f y) p)
+    ∙ ap (λ l. take i (map f xs) ++ (l ++ drop (suc i) (map f xs))) (some_one (f z) q))
     )
 
 pub replaced_none : {X : Type 0} (f : X → Span) (xs after : List X) (i : ℕ) (y z : X) → i < length xs → (f y).len ≤ 0 → (f z).len ≤ 0 → after ≡ take i xs ++ drop (i + 1) xs
@@ -79,9 +79,9 @@ pub replaced_none : {X : Type 0} (f : X → Span) (xs after : List X) (i : ℕ) 
 replaced_none f xs after i y z h p q is =
     let one : i + 1 ≡ suc i = omega arith in
     ap (map f) is ∙ (ap (λ n. map f (take i xs ++ drop n xs)) one ∙ (remove_one f xs i h ∙ sym (
-      ap (λ n. take i (map f xs) ++ (some_of (f y) ++ (some_of (f z) ++ drop n (map f xs)))) one
-      ∙ (ap (λ l. take i (map f xs) ++ (l ++ (some_of (f z) ++ drop (suc i) (map f xs)))) (some_none (f y) p)
-      ∙ ap (λ l. take i (map f xs) ++ (l ++ drop (suc i) (map f xs))) (some_none (f z) q))
+    ap (λ n. take i (map f xs) ++ (some_of (f y) ++ (some_of (f z) ++ drop n (map f xs)))) one
+    ∙ (ap (λ l. take i (map f xs) ++ (l ++ (some_of (f z) ++ drop (suc i) (map f xs)))) (some_none (f y) p)
+    ∙ ap (λ l. take i (map f xs) ++ (l ++ drop (suc i) (map f xs))) (some_none (f z) q))
     )))
 
 pub before_joined : {X : Type 0} (f : X → Span) (xs : List X) (i : ℕ) (d z : X) (s : Span) → i < length xs → (f (get_or xs i d)).at ≡ end_of s → f z ≡ together s (f (get_or xs i d))
@@ -110,8 +110,8 @@ put_over_joined f xs after i d z s h next is after_is =
     let one : suc i ≡ i + 1 = omega arith in
     let two : i + 1 + 1 ≡ suc (suc i) = omega arith in
     ap (map f) after_is ∙ (ap (λ n. map f (take (i + 1) (set xs i z) ++ drop n (set xs i z))) two ∙ (ap (λ n. map f (take n (set xs i z) ++ drop (suc (suc i)) (set xs i z))) (sym one)
-        ∙ (over_joined f xs i d z s (omega arith) (ap (λ n. (f (get_or xs n d)).at) one ∙ next) (is ∙ ap (λ n. together s (f (get_or xs n d))) (sym one))
-        ∙ ap (λ n. take i (map f xs) ++ with_next s (drop n (map f xs))) one)))
+    ∙ (over_joined f xs i d z s (omega arith) (ap (λ n. (f (get_or xs n d)).at) one ∙ next) (is ∙ ap (λ n. together s (f (get_or xs n d))) (sym one))
+    ∙ ap (λ n. take i (map f xs) ++ with_next s (drop n (map f xs))) one)))
 
 over_apart : {X : Type 0} (f : X → Span) (xs : List X) (i : ℕ) (d y : X) → i < length xs → (suc i < length xs → (f (get_or xs (suc i) d)).at ≡ end_of (f y) → ⊥)
     → map f (set xs i y) ≡ take i (map f xs) ++ with_next (f y) (drop (suc i) (map f xs))

@@ -2,3 +2,9 @@ pub mod Edited
 pub mod Parts
 pub mod Counted
 pub mod Ordered
+pub mod Taken
+pub mod Freed
+pub mod Held
+pub mod Cut
+pub mod Found
+pub mod Calls

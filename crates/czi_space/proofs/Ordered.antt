@@ -1,7 +1,7 @@
 -- The order of extents and of held spans, as a binary search needs it.
-use Rattle.std.proofs.Common.{◌≡◌, ℕ, zero, suc, ◌+◌, ◌<◌, ◌≤◌, ◌⊎◌, List, [], ◌∷◌, map, length, get_or, Bool, true, false, not, ◌&&◌, ◌||◌, ◌==◌, nat_le, nat_lt, refl, ap, sym, ◌∙◌, arith, inl, inr}
+use Rattle.std.proofs.Common.{◌≡◌, ℕ, zero, suc, ◌<◌, ◌≤◌, ◌⊎◌, List, [], ◌∷◌, map, length, get_or, Bool, true, false, not, ◌&&◌, ◌==◌, nat_le, nat_lt, refl, arith, inl, inr}
 use Rattle.std.specs.List.{AllByRecursion}
-use Rattle.std.proofs.lemmas.Bool.{cases_lt, cases_Bool, leb-true, le-leb, lt-ltb, ltb-true, ltb-false, le-ltb, leb-false, eqb-true, ne_eqb, eqb-false}
+use Rattle.std.proofs.lemmas.Bool.{cases_Bool, leb-true, le-leb, lt-ltb, ltb-true, eqb-true}
 use Rattle.std.proofs.lemmas.Bool.Decides.{nat_tests}
 use Rattle.czi_format.specs.Span.{Span, end_of, span_le}
 use Rattle.czi_space.specs.State.{AreExtents, IsInOrder, ends_by, comes_before}
@@ -45,7 +45,7 @@ in_order a b (inr h) =
     let short : nat_le a.len b.len ≡ true = le-leb _ _ h.1 in
     rw (test, same, short)
 
-not_true : (b : Bool) → not b ≡ true → b ≡ false
+pub not_true : (b : Bool) → not b ≡ true → b ≡ false
 not_true true e = cc
 not_true false e = refl
 

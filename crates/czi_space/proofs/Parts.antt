@@ -1,9 +1,9 @@
 -- What is left of spans where others take places of them.
-use Rattle.std.proofs.Common.{◌≡◌, ℕ, ◌+◌, ◌-◌, ◌<◌, ◌≤◌, List, [], ◌∷◌, ◌++◌, map, Option, Some, None, true, false, nat_lt, nat_le, refl, ap, sym, ◌∙◌, arith, inl, inr, subst, max, min, append-nil}
-use Rattle.std.specs.List.{flat_map, find, AllByRecursion}
-use Rattle.std.specs.Option.{option_or, option_map}
+use Rattle.std.proofs.Common.{◌≡◌, ℕ, ◌-◌, ◌<◌, ◌≤◌, List, [], ◌∷◌, ◌++◌, Some, None, true, false, nat_lt, nat_le, refl, ap, sym, ◌∙◌, arith, inl, inr, subst, max, min, append-nil}
+use Rattle.std.specs.List.{flat_map, AllByRecursion}
+use Rattle.std.specs.Option.{option_or}
 use Rattle.std.proofs.lemmas.List.Concat.{flat_map-append}
-use Rattle.std.proofs.lemmas.Bool.{cases_lt, cases_Bool, lt-ltb, le-ltb, leb-true, ltb-true}
+use Rattle.std.proofs.lemmas.Bool.{cases_lt, cases_Bool, lt-ltb, le-ltb, ltb-true}
 use Rattle.std.proofs.lemmas.Bool.Decides.{nat_tests}
 use Rattle.czi_format.specs.Span.{Span, end_of, meets}
 use Rattle.czi_format.specs.Space.{from_to, left_of, without}

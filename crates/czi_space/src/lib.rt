@@ -8,3 +8,6 @@ mod place;
 
 pub use map::Map;
 pub use place::Place;
+
+#[cfg(test)]
+mod tests;

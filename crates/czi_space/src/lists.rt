@@ -1,6 +1,6 @@
 //! Changes of sorted lists of spans at a place that a binary search found.
 
-ghost use Rattle.std.specs.Prelude.{◌≡◌, ℕ, ◌++◌, ◌+◌, ◌-◌, ◌≤◌, ◌<◌, map, length, take, drop, vec_len, vec_capacity, IfSome, slice_get, ◌^◌};
+ghost use Rattle.std.specs.Prelude.{◌≡◌, ℕ, ◌++◌, ◌+◌, ◌≤◌, ◌<◌, map, length, take, drop, vec_len, vec_capacity};
 ghost use Rattle.std.specs.List.{prefix_len};
 ghost use Rattle.czi_format.specs.Space.{with_next};
 ghost use Rattle.czi_num.specs.Span.{span_of};
@@ -58,7 +58,6 @@ pub fn replace(extents: &mut Vec<Span>, i: usize, before: Span, behind: Span)
 pub fn put_before(extents: &mut Vec<Span>, i: usize, span: Span)
     requires inside { i ≤ vec_len extents.old }
     requires spare { vec_len extents.old < vec_capacity extents.old }
-    requires short { IfSome (slice_get extents.old.items i) (λ e. span.len + e.len ≤ 2 ^ 63 - span.at) }
     ensures items { map span_of extents.new.items ≡ take i (map span_of extents.old.items) ++ with_next (span_of span) (drop i (map span_of extents.old.items)) }
     ensures capacity { vec_capacity extents.new ≡ vec_capacity extents.old }
     ensures one_more { vec_len extents.new ≤ vec_len extents.old + 1 }
@@ -73,8 +72,7 @@ pub fn put_before(extents: &mut Vec<Span>, i: usize, span: Span)
 
 /// Replaces an extent by a span, joined with the next extent where it ends there.
 pub fn put_over(extents: &mut Vec<Span>, i: usize, span: Span)
-    requires inside { i < vec_len extents.old }
-    requires short { IfSome (slice_get extents.old.items (i + 1)) (λ e. span.len + e.len ≤ 2 ^ 63 - span.at) }
+    requires { i < vec_len extents.old }
     ensures items { map span_of extents.new.items ≡ take i (map span_of extents.old.items) ++ with_next (span_of span) (drop (i + 1) (map span_of extents.old.items)) }
     ensures capacity { vec_capacity extents.new ≡ vec_capacity extents.old }
     ensures no_more { vec_len extents.new ≤ vec_len extents.old }

@@ -14,7 +14,7 @@ in_parts : (need : ℕ) (held : List Span) (t s : Span) (rest used : List Span) 
     → r ≡ option_or before behind → r ≡ lowest_of need (without used (without held (s ∷ [])))
 in_parts need held t s rest used before behind r held_is test before_is behind_is r_is =
     r_is ∙ (ap (λ z. option_or z behind) before_is ∙ (ap (option_or (lowest_of need (without used (without rest (from_to s.at t.at))))) behind_is
-        ∙ (sym (lowest_met need t s rest used test) ∙ ap (λ h. lowest_of need (without used (without h (s ∷ [])))) (sym held_is))))
+    ∙ (sym (lowest_met need t s rest used test) ∙ ap (λ h. lowest_of need (without used (without h (s ∷ [])))) (sym held_is))))
 
 -- what was found in a part
 part : (need a b : ℕ) (held used : List Span) (r : Option ℕ) → a < b → r ≡ lowest_of need (without used (without held (record { at = a; len = b - a } ∷ []))) → r ≡ lowest_of need (without used (without held (from_to a b)))

@@ -10,7 +10,7 @@ both : (held : List Span) (t s : Span) (rest out half after : List Span) → hel
     → half ≡ out ++ without rest (from_to s.at t.at) → after ≡ half ++ without rest (from_to (end_of t) (end_of s)) → after ≡ out ++ without held (s ∷ [])
 both held t s rest out half after held_is test half_is after_is =
     after_is ∙ (ap (λ l. l ++ without rest (from_to (end_of t) (end_of s))) half_is ∙ (append_assoc out (without rest (from_to s.at t.at)) (without rest (from_to (end_of t) (end_of s)))
-        ∙ ap (λ l. out ++ l) (sym (met t s rest test) ∙ ap (λ h. without h (s ∷ [])) (sym held_is))))
+    ∙ ap (λ l. out ++ l) (sym (met t s rest test) ∙ ap (λ h. without h (s ∷ [])) (sym held_is))))
 
 part : (a b : ℕ) (held out after : List Span) → a < b → after ≡ out ++ without held (record { at = a; len = b - a } ∷ []) → after ≡ out ++ without held (from_to a b)
 part a b held out after h is = is ∙ ap (λ l. out ++ without held l) (sym (some_places a b h))

@@ -1,4 +1,4 @@
-use Rattle.std.proofs.Common.{◌≡◌, ◌+◌, ◌<◌, ◌≤◌, ◌∙◌, ap, sym, map, length, arith}
+use Rattle.std.proofs.Common.{◌+◌, ◌<◌, ◌≤◌, ◌∙◌, ap, sym, map, length, arith}
 use Rattle.czi_num.specs.Span.{span_of}
 use Rattle.czi_space.proofs.Edited.{on_ok, before_joined, before_apart, same_read, read_as}
 use Rattle.czi_space.proofs.lists.put_before.Goals as goal

@@ -1,4 +1,4 @@
-use Rattle.std.proofs.Common.{◌≡◌, ◌+◌, ◌<◌, ◌≤◌, ◌∙◌, ap, sym, length, arith}
+use Rattle.std.proofs.Common.{◌+◌, ◌<◌, ◌∙◌, ap, sym, length, arith}
 use Rattle.czi_num.specs.Span.{span_of}
 use Rattle.czi_space.proofs.Edited.{put_over_joined, put_over_apart, same_read, read_as}
 use Rattle.czi_space.proofs.lists.put_over.Goals as goal
@@ -13,7 +13,7 @@ returns-then-index-span-clause-items c =
 
 pub returns-else-next-len-clause-items : goal.returns-else-next-len-clause-items
 returns-else-next-len-clause-items c =
-    let inside : c.args.i < length c.args.extents.now.items = omega (arith, c.args.extents.now.ok.0, c.requires.inside) in
+    let inside : c.args.i < length c.args.extents.now.items = omega (arith, c.args.extents.now.ok.0, c.requires) in
     put_over_apart span_of c.args.extents.now.items c.args.i c.args.span c.args.span inside (λ h e. elim c.else-next-len.branch [
       | else-next-len-via-then-next-len+else-index-span w ↦ w.if-index-span.false (ap (λ z. z.at) (sym (read_as _ _ _ c.args.span h w.index.ensures)) ∙ e)
       | else-next-len-via-else-next-len w ↦ omega (arith, c.args.extents.now.ok.0, c.len.ensures, w.if-next-len.false, h)
