@@ -1,4 +1,4 @@
-ghost use Rattle.std.specs.Prelude.{◌≡◌, ◌⊎◌, ◌+◌, ◌^◌, ◌<◌, ◌≤◌, List, ℕ, [], length, take, drop, slice_index, IsTrue, OnOk, OnErr, IfOk};
+ghost use Rattle.std.specs.Prelude.{◌≡◌, ◌⊎◌, ◌+◌, ◌^◌, ◌<◌, ◌≤◌, List, ℕ, [], length, take, drop, slice_index, true, OnOk, OnErr, IfOk};
 ghost use Rattle.std.specs.Option.{ForSome};
 ghost use Rattle.czi_rig.specs.Disk.{Left, Everywhere, IsAtRest};
 ghost use Rattle.czi_rig.specs.State.{known, seen_of, LeavesOther};
@@ -32,7 +32,7 @@ pub fn create<R: Rig>(rig: &mut R, head: &SlotHead, buffer: &mut [u8]) -> Result
         Throughout R.Rig rig.old rig.new (λ image j said. Left all.image.durable image × IsVoidOr (record_of head.now []) j × (said ≡ all.said))) }
     ensures created { OnOk result (ForSome (known (R.state rig.new) File.Journal) (Everywhere (λ j. slot_of j ≡ Holds (record_of head.now [])))) }
     ensures counts { IfOk result (λ journal. ForSome (known (R.state rig.new) File.Journal) (Everywhere (CountsWith journal.selected))) }
-    ensures armed { IfOk result (λ journal. IsTrue journal.armed) }
+    ensures named { IfOk result (λ journal. journal ≡ record { armed = true; selected = Slot.A }) }
     ensures synced { OnOk result (ForSome (known (R.state rig.new) File.Journal) IsAtRest) }
     ensures other_file { LeavesOther File.Journal (R.state rig.old) (R.state rig.new) }
     ensures goes_on { GoesOn (R.state rig.old) (R.state rig.new) }
@@ -94,7 +94,7 @@ fn arm<R: Rig>(rig: &mut R, slot: &[u8]) -> Result<Journal, Failed>
         → Throughout R.Rig rig.old rig.new (λ image j said. Left all.image.durable image × IsVoidOr r j × (said ≡ all.said))) }
     ensures created { OnOk result ((r : Record) → Spells r slot.now → ForSome (known (R.state rig.new) File.Journal) (Everywhere (λ j. slot_of j ≡ Holds r))) }
     ensures counts { IfOk result (λ journal. ForSome (known (R.state rig.new) File.Journal) (Everywhere (CountsWith journal.selected))) }
-    ensures armed { IfOk result (λ journal. IsTrue journal.armed) }
+    ensures named { IfOk result (λ journal. journal ≡ record { armed = true; selected = Slot.A }) }
     ensures synced { OnOk result (ForSome (known (R.state rig.new) File.Journal) IsAtRest) }
     ensures other_file { LeavesOther File.Journal (R.state rig.old) (R.state rig.new) }
     ensures goes_on { GoesOn (R.state rig.old) (R.state rig.new) }

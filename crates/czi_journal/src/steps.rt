@@ -44,7 +44,8 @@ pub fn flip<R: Rig>(rig: &mut R, journal: &mut Journal) -> Result<(), Failed>
     ensures flipped { OnOk result (ForSome (seen_of (R.state rig.old) File.Journal) (λ before.
         ForSome (known (R.state rig.new) File.Journal) (Everywhere (λ j. slot_of j ≡ slot_in (other journal.old.selected) before)))) }
     ensures counts { OnOk result (ForSome (known (R.state rig.new) File.Journal) (Everywhere (CountsWith journal.new.selected))) }
-    ensures armed { IsTrue journal.new.armed }
+    ensures named { OnOk result (journal.new ≡ record journal.old { selected = other journal.old.selected }) }
+    ensures unchanged { OnErr result (journal.new ≡ journal.old) }
     ensures synced { OnOk result (ForSome (known (R.state rig.new) File.Journal) IsAtRest) }
     ensures other_file { LeavesOther File.Journal (R.state rig.old) (R.state rig.new) }
     ensures goes_on { GoesOn (R.state rig.old) (R.state rig.new) }

@@ -6,7 +6,7 @@ ghost use Rattle.czi_rig.specs.Passes.{GoesOn, Rose};
 ghost use Rattle.czi_rig.specs.Moments.{devices, Throughout, LeavesNow};
 ghost use Rattle.czi_links.specs.Record.{Record, EndWithin, encoded_len, record_of};
 ghost use Rattle.czi_links.specs.Reading.{Holds, Spells};
-ghost use Rattle.czi_journal.specs.Journals.{slot_of, CountsWith, SaysAsBefore};
+ghost use Rattle.czi_journal.specs.Journals.{other, slot_of, CountsWith, SaysAsBefore};
 ghost use Rattle.czi_vault.specs.Recovered.{applied, View, Recovered, StandsNow, StandsOr};
 ghost use Rattle.czi_vault.specs.Faults.{IsCaused};
 ghost use Rattle.czi_vault.specs.Puts.{ranges};
@@ -34,6 +34,7 @@ fn switch<R: Rig>(rig: &mut R, journal: &mut Journal, bytes: &[u8]) -> Result<()
         → Throughout R.Rig rig.old rig.new (λ image j said. Left all.image.durable image × (SaysAsBefore all.journal.durable j ⊎ (slot_of j ≡ Holds r)) × (said ≡ all.said))) }
     ensures switched { OnOk result ((r : Record) → Spells r bytes.now → ForSome (known (R.state rig.new) File.Journal) (Everywhere (λ j. slot_of j ≡ Holds r))) }
     ensures counts { OnOk result (ForSome (known (R.state rig.new) File.Journal) (Everywhere (CountsWith journal.new.selected))) }
+    ensures named { OnOk result (journal.new ≡ record journal.old { selected = other journal.old.selected }) }
     ensures armed { IsTrue journal.new.armed }
     ensures other { LeavesOther File.Journal (R.state rig.old) (R.state rig.new) }
     ensures goes_on { GoesOn (R.state rig.old) (R.state rig.new) }
@@ -80,6 +81,7 @@ pub fn commit<R: Rig>(
         (image j said : List ℕ) → LeavesNow now image j said → Recovered image j (applied (record_of head.now links.now.links) all.image.seen)))) }
     ensures image { OnOk result (known (R.state rig.new) File.Image ≡ option_map (λ disk. at_rest (applied (record_of head.now links.now.links) disk.seen)) (known (R.state rig.old) File.Image)) }
     ensures counts { OnOk result (ForSome (known (R.state rig.new) File.Journal) (Everywhere (CountsWith journal.new.selected))) }
+    ensures named { OnOk result (journal.new ≡ record journal.old { selected = other journal.old.selected }) }
     ensures armed { IsTrue journal.new.armed }
     ensures said { (R.state rig.new).said ≡ (R.state rig.old).said }
     ensures goes_on { GoesOn (R.state rig.old) (R.state rig.new) }
