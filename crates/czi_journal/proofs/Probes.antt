@@ -1,5 +1,5 @@
 -- What was read of a journal, and what is answered.
-use Rattle.std.proofs.Common.{◌≡◌, ◌≤◌, ◌++◌, ℕ, List, [], arith, length, take, drop, Option, None, Some, Ok, Err, refl, sym, ◌∙◌, ap}
+use Rattle.std.proofs.Common.{◌≡◌, ◌≤◌, ◌++◌, ℕ, List, [], arith, length, take, drop, Option, Ok, Err, sym, ◌∙◌, ap}
 use Rattle.std.specs.Prelude.{Result, IsErr}
 use Rattle.std.proofs.lemmas.List.{take_at, length-drop, length-take-le}
 use Rattle.czi_links.specs.declared.head.SlotHead.{SlotHead}

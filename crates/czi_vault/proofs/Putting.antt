@@ -1,5 +1,5 @@
 -- The image while links are written, and what a crash then leaves.
-use Rattle.std.proofs.Common.{◌≡◌, ◌≤◌, ◌<◌, length, [], ◌∷◌, ◌++◌, ℕ, zero, suc, ◌+◌, List, get_or, take, map, refl, sym, ◌∙◌, ap, subst, arith, All}
+use Rattle.std.proofs.Common.{◌≡◌, ◌≤◌, ◌<◌, length, [], ◌∷◌, ◌++◌, ℕ, zero, suc, ◌+◌, List, get_or, take, refl, sym, ◌∙◌, ap, subst, arith}
 use Rattle.std.proofs.lemmas.List.{take_more}
 use Rattle.czi_rig.specs.Disk.{Left, Disk, Durable, begun_write, wrote}
 use Rattle.czi_rig.proofs.Files.{Left-begun_write, length-overwritten}

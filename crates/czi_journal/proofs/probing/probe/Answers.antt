@@ -1,15 +1,14 @@
-use Rattle.std.proofs.Common.{◌≡◌, ◌≤◌, ◌+◌, ℕ, List, [], length, take, drop, Some, refl, sym, ◌∙◌, ap, subst, arith}
+use Rattle.std.proofs.Common.{◌≡◌, length, Some, refl, sym, ◌∙◌, ap, subst, arith}
 use Rattle.std.specs.Prelude.{option_map}
 use Rattle.std.proofs.lemmas.Result.{err_from_is_err_and}
 use Rattle.czi_rig.specs.declared.file.File.TheVariants.{Journal}
 use Rattle.czi_rig.specs.Disk.{Disk}
 use Rattle.czi_rig.specs.State.{seen_of}
-use Rattle.czi_rig.specs.Moments.{devices}
 use Rattle.czi_rig.proofs.Known.{same_known, goes_then}
 use Rattle.czi_rig.proofs.Runs.{run_is, run_waits}
 use Rattle.czi_links.specs.WriteSet.{WriteSet}
 use Rattle.czi_links.specs.Reading.{read}
-use Rattle.czi_journal.specs.Journals.{behind, slot_place, slot_of, CountsWith}
+use Rattle.czi_journal.specs.Journals.{behind, CountsWith}
 use Rattle.czi_journal.specs.Probing.{IsSelection}
 use Rattle.czi_journal.proofs.Probes.{emptied_err, slot_read, refused, no_fault}
 use Rattle.czi_journal.proofs.Slots.{slot_room}

@@ -1,4 +1,4 @@
-use Rattle.std.proofs.Common.{◌≡◌, length, List, ◌∙◌, ap, sym, take, get_or, subst, arith, ◌<◌, ◌≤◌, ◌+◌}
+use Rattle.std.proofs.Common.{length, ◌∙◌, ap, sym, take, subst, arith, ◌<◌, ◌≤◌, ◌+◌}
 use Rattle.std.specs.Prelude.{option_map}
 use Rattle.std.proofs.lemmas.Option.{get_or_from_slice_get}
 use Rattle.czi_rig.specs.declared.file.File.TheVariants.{Image}
