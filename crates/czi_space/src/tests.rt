@@ -2,37 +2,29 @@ use crate::{Map, Place};
 use czi_num::Span;
 use std::test::Fail;
 
-fn span(at: u32, len: u32) -> Span {
-    Span {
-        at: u64::from(at),
-        len: u64::from(len),
-    }
-}
-
 #[test]
-fn one_run(rt: HostRuntime) -> Result<(), Fail> {
-    let extents = vec![in rt.alloc(); span(544, 160)]?;
+fn runs_and_places(rt: HostRuntime) -> Result<(), Fail> {
+    let extents = vec![in rt.alloc(); Span { at: 544, len: 160 }]?;
     let mut map = Map::of_runs(rt.alloc(), extents, 704);
     map.reserve(4)?;
-    assert_eq!(rt; map.runs()?.as_slice(), [span(544, 160)].as_slice());
+    let runs = map.runs()?;
+    assert_eq!(rt; runs.as_slice(), [Span { at: 544, len: 160 }].as_slice());
     assert_eq!(rt; map.length(), 704);
     assert_eq!(rt; map.first_fit(160), Place::At(544));
     assert_eq!(rt; map.first_fit(192), Place::At(704));
-    assert_eq!(rt;
-        map.first_fit_after(64, &[span(544, 128), span(704, 320)]),
-        Place::At(1024)
-    );
-    assert_eq!(rt; map.first_fit_after(32, &[span(544, 128)]), Place::At(672));
+    let taken = [Span { at: 544, len: 128 }, Span { at: 704, len: 320 }];
+    assert_eq!(rt; map.first_fit_after(64, &taken), Place::At(1024));
+    assert_eq!(rt; map.first_fit_after(32, &taken), Place::At(672));
     Ok(())
 }
 
 #[test]
-fn at_the_limit(rt: HostRuntime) -> Result<(), Fail> {
+fn places_at_the_limit(rt: HostRuntime) -> Result<(), Fail> {
     let length = 1_099_511_627_744;
-    let map = Map::of_runs(rt.alloc(), vec![in rt.alloc()]?, length);
+    let map = Map::of_runs(rt.alloc(), Vec::new(rt.alloc()), length);
     assert_eq!(rt; map.first_fit(64), Place::Full { need: 64, length });
     assert_eq!(rt; map.first_fit(32), Place::At(length));
-    let long = Map::of_runs(rt.alloc(), vec![in rt.alloc()]?, u64::MAX);
+    let long = Map::of_runs(rt.alloc(), Vec::new(rt.alloc()), u64::MAX);
     assert_eq!(rt;
         long.first_fit(32),
         Place::Full {
@@ -44,28 +36,40 @@ fn at_the_limit(rt: HostRuntime) -> Result<(), Fail> {
 }
 
 #[test]
-fn used_held_and_freed(rt: HostRuntime) -> Result<(), Fail> {
-    let mut map = Map::of_runs(rt.alloc(), vec![in rt.alloc(); span(544, 736)]?, 1600);
-    map.reserve(8)?;
-    map.hold(&span(704, 320));
-    assert_eq!(rt; map.held(), [span(704, 320)].as_slice());
+fn held_and_released(rt: HostRuntime) -> Result<(), Fail> {
+    let extents = vec![in rt.alloc(); Span { at: 544, len: 736 }]?;
+    let mut map = Map::of_runs(rt.alloc(), extents, 1600);
+    map.reserve(4)?;
+    let old = Span { at: 704, len: 320 };
+    map.hold(&old);
+    assert_eq!(rt; map.held(), [old].as_slice());
+    let runs = map.runs()?;
     assert_eq!(rt;
-        map.runs()?.as_slice(),
-        [span(544, 160), span(1024, 256)].as_slice()
+        runs.as_slice(),
+        [Span { at: 544, len: 160 }, Span { at: 1024, len: 256 }].as_slice()
     );
     assert_eq!(rt; map.first_fit(256), Place::At(1024));
-    map.unhold(&span(704, 320));
-    map.take(&span(704, 320));
-    assert_eq!(rt; map.extents(), [span(544, 160), span(1024, 256)].as_slice());
-    map.free(&span(1312, 32));
-    map.free(&span(1280, 32));
-    assert_eq!(rt; map.extents(), [span(544, 160), span(1024, 320)].as_slice());
-    map.free(&span(704, 320));
-    assert_eq!(rt; map.extents(), [span(544, 800)].as_slice());
+    map.unhold(&old);
+    assert_eq!(rt; map.held(), [].as_slice());
+    Ok(())
+}
+
+#[test]
+fn taken_freed_and_cut(rt: HostRuntime) -> Result<(), Fail> {
+    let extents = vec![in rt.alloc(); Span { at: 544, len: 736 }]?;
+    let mut map = Map::of_runs(rt.alloc(), extents, 1280);
+    map.reserve(4)?;
+    let old = Span { at: 704, len: 320 };
+    map.take(&old);
+    assert_eq!(rt;
+        map.extents(),
+        [Span { at: 544, len: 160 }, Span { at: 1024, len: 256 }].as_slice()
+    );
+    map.free(&old);
+    assert_eq!(rt; map.extents(), [Span { at: 544, len: 736 }].as_slice());
     map.set_length(2048);
-    map.take(&span(1312, 32));
-    map.cut(1312);
-    assert_eq!(rt; map.extents(), [span(544, 768)].as_slice());
-    assert_eq!(rt; map.length(), 1312);
+    map.cut(1024);
+    assert_eq!(rt; map.extents(), [].as_slice());
+    assert_eq!(rt; map.length(), 1024);
     Ok(())
 }
