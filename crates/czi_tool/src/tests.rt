@@ -1,6 +1,6 @@
 use crate::file_rig::FileRig;
 use crate::input::InputSource;
-use czi_rig::{Failed, File, Rig, Source};
+use czi_rig::{Failed, File, Rig, Source, cut_synced, write_synced};
 use std::fs;
 use std::test::Fail;
 
@@ -54,9 +54,11 @@ fn file_has_what_was_written_and_cut(rt: HostRuntime) -> Result<(), Fail> {
     assert_eq!(rt; rig.cut(File::Image, 7), Ok(()));
     assert_eq!(rt; rig.sync(File::Image), Ok(()));
     assert_eq!(rt; rig.len(File::Image), Ok(7));
+    assert_eq!(rt; write_synced(&mut rig, File::Image, 7, b"HI"), Ok(()));
+    assert_eq!(rt; cut_synced(&mut rig, File::Image, 8), Ok(()));
     assert_eq!(rt;
         fs::read(&rt, "image.czi")?.as_slice(),
-        b"abcdEFG".as_slice()
+        b"abcdEFGH".as_slice()
     );
     assert_eq!(rt; rig.say(b"said\n"), Ok(()));
     assert_eq!(rt;
