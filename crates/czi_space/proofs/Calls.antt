@@ -11,7 +11,7 @@ use Rattle.czi_space.proofs.Freed.{FreedAt, freed_at}
 use Rattle.czi_space.proofs.Held.{ReleasedAt, held_at, released_at}
 use Rattle.czi_space.proofs.Cut.{cut_at}
 use Rattle.czi_space.proofs.Edited.{read_as}
-use Rattle.czi_space.proofs.Found.{rest_of, found_now, none_now, none_at_all, runs_more}
+use Rattle.czi_space.proofs.Found.{rest_of, found_now, none_now, none_at_all}
 
 pub taken_there : (xs seen : List CodeSpan) (to : ℕ) (extents : List Span) (s : Span) (i : ℕ) → AreExtents 0 to (map span_of xs) → map span_of xs ≡ extents → 0 < s.len → LiesInOne s extents
     → seen ≡ xs → i ≡ prefix_len (ends_by s.at) (map span_of seen) → TakenAt span_of xs s i
@@ -95,10 +95,3 @@ pub no_step : (xs seen held used : List CodeSpan) (need n m i : ℕ) → seen �
     → rest_of span_of (map span_of held) (map span_of used) need (drop i xs) ≡ rest_of span_of (map span_of held) (map span_of used) need xs → m ≡ (use_all (record { runs = []; length = n }) (map span_of used)).length
     → place_for (use_all (record { runs = free_runs (map span_of held) (map span_of xs); length = n }) (map span_of used)) need ≡ place_past (record { runs = []; length = m }) need
 no_step xs seen held used need n m i seen_is over is m_is = none_at_all span_of (map span_of held) (map span_of used) need n m xs i (omega (arith, ap length seen_is)) is m_is
-
-pub runs_step : (xs seen held held_seen : List CodeSpan) (out after : List Span) (i : ℕ) (e : CodeSpan) → seen ≡ xs → held_seen ≡ held → i < length seen → e ≡ get_or seen i e
-    → out ≡ without (map span_of held) (map span_of (take i xs)) → after ≡ out ++ without (map span_of held_seen) (span_of e ∷ []) → after ≡ without (map span_of held) (map span_of (take (i + 1) xs))
-runs_step xs seen held held_seen out after i e seen_is held_is' inside e_is out_is after_is =
-    let there : e ≡ get_or xs i e = e_is ∙ ap (λ l. get_or l i e) seen_is in
-    runs_more span_of (map span_of held) out after xs i e (omega (arith, ap length seen_is)) out_is
-    (after_is ∙ (ap (λ l. out ++ without (map span_of l) (span_of e ∷ [])) held_is' ∙ ap (λ (z : CodeSpan). out ++ without (map span_of held) (span_of z ∷ [])) there))

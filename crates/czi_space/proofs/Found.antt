@@ -1,9 +1,9 @@
 -- First fit over the extents in turn.
-use Rattle.std.proofs.Common.{◌≡◌, ℕ, ◌+◌, ◌<◌, ◌≤◌, List, [], ◌∷◌, ◌++◌, map, take, drop, length, get_or, max, Option, Some, None, Ok, nat_le, refl, ap, sym, ◌∙◌, add-one}
+use Rattle.std.proofs.Common.{◌≡◌, ℕ, ◌+◌, ◌<◌, ◌≤◌, List, [], ◌∷◌, map, drop, length, get_or, max, Option, Some, None, Ok, nat_le, refl, ap, sym, ◌∙◌, add-one}
 use Rattle.std.specs.List.{find}
 use Rattle.std.specs.Option.{option_or, option_map}
 use Rattle.std.proofs.Math.Seq.{drop-cons}
-use Rattle.std.proofs.lemmas.List.{drop_all, take_more, map-append}
+use Rattle.std.proofs.lemmas.List.{drop_all}
 use Rattle.czi_format.specs.Span.{Span, end_of}
 use Rattle.czi_format.specs.Space.{Space, without, free_runs, use_span, use_all, place_for, place_in, place_past}
 use Rattle.czi_space.specs.State.{lowest_of}
@@ -70,10 +70,3 @@ none_at_all f held used need n m xs i h is m_is =
     let none : rest_of f held used need xs ≡ None = sym is ∙ (ap (rest_of f held used need) (drop_all i xs h) ∙ lowest_nothing need held used) in
     place_not_found (use_all space used) need (ap (lowest_of need) (runs-use_all space used) ∙ none)
     ∙ past_same (use_all space used) (record { runs = []; length = m }) need (length-use_all space (record { runs = []; length = n }) used refl ∙ sym m_is)
-
--- the runs of one extent more
-pub runs_more : {X : Type 0} (f : X → Span) (held out after : List Span) (xs : List X) (i : ℕ) (d : X) → i < length xs
-    → out ≡ without held (map f (take i xs)) → after ≡ out ++ without held (f (get_or xs i d) ∷ []) → after ≡ without held (map f (take (i + 1) xs))
-runs_more f held out after xs i d h out_is after_is =
-    after_is ∙ (ap (λ l. l ++ without held (f (get_or xs i d) ∷ [])) out_is ∙ (sym (without-append held (map f (take i xs)) (f (get_or xs i d) ∷ []))
-    ∙ ap (without held) (sym (map-append f (take i xs) (get_or xs i d ∷ [])) ∙ ap (map f) (sym (take_more xs i d h)))))

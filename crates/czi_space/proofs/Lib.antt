@@ -8,3 +8,4 @@ pub mod Held
 pub mod Cut
 pub mod Found
 pub mod Calls
+pub mod Sides

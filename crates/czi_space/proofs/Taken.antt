@@ -10,7 +10,7 @@ use Rattle.czi_space.proofs.Parts.{some_places, no_places}
 left_met : (s x : Span) → meets s x ≡ true → left_of s x ≡ from_to x.at s.at ++ from_to (end_of s) (end_of x)
 left_met s x e = rw e
 
-left_apart : (s x : Span) → meets s x ≡ false → left_of s x ≡ x ∷ []
+pub left_apart : (s x : Span) → meets s x ≡ false → left_of s x ≡ x ∷ []
 left_apart s x e = rw e
 
 pub miss : (s x : Span) → (end_of s ≤ x.at) ⊎ (end_of x ≤ s.at) → meets s x ≡ false
@@ -22,7 +22,7 @@ lies_from from to s [] es lies = absurd lies
 lies_from from to s (x ∷ rest) es (inl h) = omega (arith, es.0, h.0)
 lies_from from to s (x ∷ rest) es (inr h) = omega (arith, es.0, lies_from (end_of x) to s rest es.2 h)
 
-all_apart : (from to : ℕ) (s : Span) (es : List Span) → AreExtents from to es → end_of s ≤ from → flat_map (left_of s) es ≡ es
+pub all_apart : (from to : ℕ) (s : Span) (es : List Span) → AreExtents from to es → end_of s ≤ from → flat_map (left_of s) es ≡ es
 all_apart from to s [] es h = refl
 all_apart from to s (x ∷ rest) es h =
     ap (λ l. l ++ flat_map (left_of s) rest) (left_apart s x (miss s x (inl (omega (arith, es.0, h)))))

@@ -1,5 +1,5 @@
 -- What a map of free space shows, and what is always so of it.
-use Rattle.std.specs.Prelude.{◌≡◌, ◌⊎◌, ℕ, ◌%◌, ◌<◌, ◌≤◌, List, [], ◌∷◌, Bool, not, IsTrue, IsFalse, Option, option_map, find, nat_le, nat_lt, Result, Ok, Err, if◌then◌else◌}
+use Rattle.std.specs.Prelude.{◌≡◌, ◌⊎◌, ℕ, ◌%◌, ◌<◌, ◌≤◌, List, [], ◌∷◌, ◌++◌, Bool, not, IsTrue, IsFalse, Option, option_map, find, nat_le, nat_lt, Result, Ok, Err, if◌then◌else◌}
 use Rattle.std.specs.List.{AllByRecursion}
 use Rattle.czi_format.specs.Span.{Span, end_of, meets, span_le}
 use Rattle.czi_format.specs.Space.{Space, Full, free_runs}
@@ -76,3 +76,9 @@ ends_by place e = nat_le (end_of e) place
 -- the other span comes before s
 abbrev pub comes_before : Span → Span → Bool
 comes_before s other = not (span_le s other)
+
+-- the rest of the held spans, of which those before end at or below a place
+pub record SkipsTo (place : ℕ) (hs rest : List Span) : Type 0 where
+  pub front : List Span
+  pub whole : hs ≡ front ++ rest
+  pub passed : AllByRecursion (λ (h : Span). end_of h ≤ place) front

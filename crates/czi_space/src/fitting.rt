@@ -1,9 +1,9 @@
 //! First fit over extents from which held and used spans are taken out.
 
-ghost use Rattle.std.specs.Prelude.{◌≡◌, ◌++◌, ◌∷◌, [], ◌+◌, ◌-◌, ◌≤◌, ◌<◌, ◌^◌, map, max, length, IfOk, OnOk};
+ghost use Rattle.std.specs.Prelude.{◌≡◌, ℕ, ◌++◌, ◌∷◌, [], ◌+◌, ◌-◌, ◌≤◌, ◌<◌, ◌^◌, map, max, length, IfOk, OnOk};
 ghost use Rattle.czi_format.specs.Space.{without, place_past, use_all};
 ghost use Rattle.czi_num.specs.Span.{span_of};
-ghost use Rattle.czi_space.specs.State.{place_of, lowest_of};
+ghost use Rattle.czi_space.specs.State.{place_of, lowest_of, AreExtents, IsInOrder, SkipsTo};
 
 use crate::place::Place;
 use czi_num::{Span, meets, round32};
@@ -49,14 +49,33 @@ pub fn lowest(run: &Span, held: &[Span], used: &[Span], need: u64) -> Option<u64
     None
 }
 
-/// Appends the parts of `run` that meet none of the spans.
+/// The held spans from the first one on that ends past a place.
+pub fn ending_past(held: &[Span], place: u64) -> &[Span]
+    ensures { SkipsTo place (map span_of held.now) (map span_of result.now) }
+{
+    for (i, span) in held.iter().enumerate() {
+        if span.at + span.len > place {
+            let (_, rest) = held.split_at(i);
+            return rest;
+        }
+    }
+    &[]
+}
+
+/// Appends the parts of `run` that meet none of the spans, which are in order: those behind the run aren't
+/// looked at.
 pub fn push_parts(run: &Span, held: &[Span], out: &mut Vec<Span>) -> Result<(), AllocError>
+    requires { IsInOrder (map span_of held.now) }
     ensures { OnOk result (map span_of out.new.items ≡ map span_of out.old.items ++ without (map span_of held.now) (span_of run.now ∷ [])) }
 {
     let Some((first, rest)) = held.split_first() else {
         out.push(*run)?;
         return Ok(());
     };
+    if first.at >= run.at + run.len {
+        out.push(*run)?;
+        return Ok(());
+    }
     if !meets(first, run) {
         return push_parts(run, rest, out);
     }
@@ -74,6 +93,21 @@ pub fn push_parts(run: &Span, held: &[Span], out: &mut Vec<Span>) -> Result<(), 
             len: to - from,
         };
         push_parts(&behind, rest, out)?;
+    }
+    Ok(())
+}
+
+/// Appends the free runs: the parts of the extents that meet no held span. Both rise, and are gone through side
+/// by side.
+pub fn push_runs(extents: &[Span], held: &[Span], out: &mut Vec<Span>) -> Result<(), AllocError>
+    requires rising { (to : ℕ) × AreExtents 0 to (map span_of extents.now) }
+    requires order { IsInOrder (map span_of held.now) }
+    ensures { OnOk result (map span_of out.new.items ≡ map span_of out.old.items ++ without (map span_of held.now) (map span_of extents.now)) }
+{
+    let mut rest = held;
+    for extent in extents {
+        rest = ending_past(rest, extent.at);
+        push_parts(extent, rest, out)?;
     }
     Ok(())
 }

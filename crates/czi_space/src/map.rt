@@ -1,6 +1,6 @@
 //! The map of free space.
 
-use crate::fitting::{grown, lowest, past, push_parts};
+use crate::fitting::{grown, lowest, past, push_runs};
 use crate::lists::{coming_before, ending_by, put_before, put_over, replace};
 use crate::place::Place;
 use czi_num::Span;
@@ -169,14 +169,12 @@ impl Map {
         Ok(())
     }
 
-    /// The free runs in order of place. It looks at each extent once, and at the held spans for each.
+    /// The free runs in order of place. It goes through the extents and the held spans side by side.
     pub fn runs(&self) -> Result<Vec<Span>, AllocError>
         ensures { IfOk result (λ v. map span_of v.items ≡ free_runs self.now.held self.now.extents) }
     {
         let mut out = Vec::new(self.alloc);
-        for extent in &self.extents {
-            push_parts(extent, &self.held, &mut out)?;
-        }
+        push_runs(&self.extents, &self.held, &mut out)?;
         Ok(out)
     }
 

@@ -3,6 +3,8 @@ use Rattle.czi_format.specs.Span.{Span, end_of, meets}
 use Rattle.czi_format.specs.Space.{from_to, without}
 use Rattle.czi_num.specs.Span.{span_of}
 use Rattle.czi_space.proofs.Parts.{met, without-nil, some_places, no_places}
+use Rattle.czi_space.proofs.Sides.{none_met}
+use Rattle.std.proofs.lemmas.List.{map-append}
 use Rattle.czi_space.proofs.fitting.+push_parts.Goals as goal
 use Rattle.czi_space.proofs.fitting.+push_parts.Goals.{then-run-first+in_ok-push_parts, else-run-first}
 
@@ -39,3 +41,9 @@ returns-else-from-to t c =
     both (map span_of c.args.held.now) (span_of c.in-Some.first.now) (span_of c.args.run.now) (map span_of c.in-Some.rest.now) (map span_of c.args.out.now.items) (map span_of c.if-run-first.out.items)
     (map span_of c.if-run-first.out.items) held_is (sym c.if-not-meets.ensures.value) half
     (no_part (end_of (span_of c.in-Some.first.now)) (end_of (span_of c.args.run.now)) (map span_of c.in-Some.rest.now) (map span_of c.if-run-first.out.items) (map span_of c.if-run-first.out.items) c.if-from-to.false refl)
+
+pub returns-then-first-run : goal.returns-then-first-run
+returns-then-first-run t c =
+    let held_is : map span_of c.args.held.now ≡ span_of c.in-Some.first.now ∷ map span_of c.in-Some.rest.now = ap (map span_of) c.in-Some.ensures.cases.0 in
+    ap (map span_of) c.in_ok-push-2.ensures.items ∙ (map-append span_of c.args.out.now.items (c.args.run.now ∷ [])
+    ∙ sym (ap (λ l. map span_of c.args.out.now.items ++ l) (none_met (span_of c.in-Some.first.now) (map span_of c.in-Some.rest.now) (map span_of c.args.held.now) (span_of c.args.run.now) held_is c.requires c.if-first-run.true)))
