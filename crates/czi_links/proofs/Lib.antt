@@ -1,4 +1,5 @@
 pub mod Again
+pub mod Rising
 pub mod Sound
 mod Encoding
 mod Taken

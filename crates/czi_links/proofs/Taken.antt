@@ -3,7 +3,7 @@ use Rattle.std.proofs.Common.{◌≡◌, ℕ, suc, ◌+◌, ◌-◌, ◌<◌, �
 use Rattle.std.specs.Prelude.{Result, if◌then◌else◌}
 use Rattle.std.proofs.lemmas.List.{append_assoc, append-nil, drop-drop}
 use Rattle.czi_format.specs.Bytes.{bytes_at, u32_at, u64_at}
-use Rattle.czi_links.specs.Record.{Bytes, next_place, end_of}
+use Rattle.czi_links.specs.Record.{Bytes}
 use Rattle.czi_links.specs.Reading.{KeepsRules, is_good, after, links_at}
 use Rattle.czi_links.proofs.Again.{if_true, good_is}
 use Rattle.czi_links.proofs.Sound.{good_of}
@@ -56,10 +56,6 @@ module _ (slot : List ℕ) (n at from limit : ℕ) where
 -- as many are left
 pub left_more : (count taken : ℕ) → taken < count → count - taken ≡ suc (count - (taken + 1))
 left_more count taken lt = omega (arith, lt)
-
-pub next_place-more : (from : ℕ) (ls : List Bytes) (l : Bytes) → next_place from (ls ++ l ∷ []) ≡ end_of l
-next_place-more from [] l = refl
-next_place-more from (k ∷ ls) l = next_place-more (end_of k) ls l
 
 -- one more link was taken
 pub one_taken : (slot : List ℕ) (count taken at from limit : ℕ) (ls new : List Bytes) (place len : ℕ) (whole : Result (List Bytes) ℕ) → taken < count → KeepsRules (u64_at (drop at slot) 0) (u32_at (drop at slot) 8) from limit (length (drop at slot))

@@ -7,19 +7,15 @@ use Rattle.std.proofs.Math.Seq.{drop-append-add}
 use Rattle.std.proofs.lemmas.List.{append_assoc, append-nil, length-append, length-drop, length-map, take-append-le, take_all, drop_at, drop-append-le}
 use Rattle.std.proofs.lemmas.List.Elements.{All-head, All-tail, All-push, All-weaker, All-nil}
 use Rattle.czi_links.specs.declared.write_set.Entry.{Entry}
-use Rattle.czi_links.specs.Record.{Bytes, AreRising, next_place, end_of, spell_link}
+use Rattle.czi_links.specs.Record.{Bytes, AreRising, next_place, spell_link}
 use Rattle.czi_format.specs.Bytes.{u32_bytes, u64_bytes}
 use Rattle.czi_links.proofs.Again.{length-spell_link}
+use Rattle.czi_links.proofs.Rising.{rising_more}
 use Rattle.czi_links.specs.WriteSet.{WriteSet, IsWhole, link_in, links_in}
 
 -- none
 pub none_whole : IsWhole [] []
 none_whole = record { within = All-nil (λ (e : Entry). e.at + e.len ≤ 0); spelt = refl; rising = tt }
-
--- one more behind rising links
-pub rising_more : (from : ℕ) (ls : List Bytes) (l : Bytes) → AreRising from ls → next_place from ls ≤ l.place → 1 ≤ length l.bytes → AreRising from (ls ++ l ∷ [])
-rising_more from [] l rising begins some = (begins, some, tt)
-rising_more from (k ∷ ls) l rising begins some = (rising.0, rising.1, rising_more (end_of k) ls l rising.2 begins some)
 
 map-append : {A B : Type 0} (f : A → B) (xs ys : List A) → map f (xs ++ ys) ≡ map f xs ++ map f ys
 map-append f [] ys = refl

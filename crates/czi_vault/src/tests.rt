@@ -135,11 +135,14 @@ fn any_stop_of_a_recovery_can_be_recovered(rt: HostRuntime) -> Result<(), Fail> 
 }
 
 #[test]
-fn fault_is_that_of_the_file(rt: HostRuntime) -> Result<(), Fail> {
-    let alloc = rt.alloc();
-    let mut rig = MemRig::new(alloc, &[0; 128], b"")?;
-    rig.fail_call(0)?;
-    assert_eq!(rt; prefill(&mut rig, 128, b"new"), Err(Failed));
+fn new_bytes_are_written_and_synced(rt: HostRuntime) -> Result<(), Fail> {
+    let mut rig = MemRig::new(rt.alloc(), &[0; 128], b"")?;
+    rig.fail_call(2)?;
+    assert_eq!(rt; prefill(&mut rig, 128, b"new"), Ok(()));
     assert_eq!(rt; settle(&mut rig), Ok(()));
+    let image = rig.content(File::Image);
+    assert_eq!(rt; image.len(), 131);
+    assert_eq!(rt; image.get(128..), Some(b"new".as_slice()));
+    assert_eq!(rt; settle(&mut rig), Err(Failed));
     Ok(())
 }

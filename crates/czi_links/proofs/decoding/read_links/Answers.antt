@@ -3,7 +3,8 @@ use Rattle.std.proofs.lemmas.List.{length-drop, length-take-le}
 use Rattle.czi_links.specs.Record.{Bytes, next_place}
 use Rattle.czi_links.specs.Reading.{links_at}
 use Rattle.czi_links.specs.WriteSet.{WriteSet}
-use Rattle.czi_links.proofs.Taken.{prepended, prepended-none, one_taken, none_taken, all_taken, next_place-more}
+use Rattle.czi_links.proofs.Taken.{prepended, prepended-none, one_taken, none_taken, all_taken}
+use Rattle.czi_links.proofs.Rising.{next_place-more}
 use Rattle.czi_links.proofs.decoding.read_links.Goals as goal
 
 pub loop-taken-init : goal.loop-taken-init
