@@ -1,0 +1,4 @@
+pub mod Windows
+pub mod View
+pub mod Faults
+pub mod Entries

@@ -1,0 +1,15 @@
+//! What a CZI image holds: all that the pointers of its file header reach, read over a rig.
+#![tactic(auto)]
+
+mod attachments;
+mod entries;
+mod fault;
+mod header;
+mod metadata;
+mod reading;
+mod segment;
+mod tiles;
+mod types;
+
+pub use fault::ImageFault;
+pub use types::{AttItem, DirItem, Index, MetaItem, Tile};
