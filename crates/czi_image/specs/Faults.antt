@@ -52,3 +52,17 @@ IsNoDevice (BadAttachment place) = Unit {0}
 IsNoDevice (Overlap first second) = Unit {0}
 IsNoDevice Memory = Unit {0}
 IsNoDevice Device = ⊥
+
+-- only a call failed, or memory was wanting: the image is refused by no rule
+abbrev pub IsOnlyCalls : ImageFault → Type 0
+IsOnlyCalls NotCzi = ⊥
+IsOnlyCalls (MultiPart part) = ⊥
+IsOnlyCalls (Pending value) = ⊥
+IsOnlyCalls (BadDirectory place) = ⊥
+IsOnlyCalls (TooMany place count) = ⊥
+IsOnlyCalls (BadEntry place) = ⊥
+IsOnlyCalls (BadSegment place) = ⊥
+IsOnlyCalls (BadAttachment place) = ⊥
+IsOnlyCalls (Overlap first second) = ⊥
+IsOnlyCalls Memory = Unit {0}
+IsOnlyCalls Device = Unit {0}

@@ -2,3 +2,5 @@ pub mod Windows
 pub mod View
 pub mod Faults
 pub mod Entries
+pub mod Rules
+pub mod Inside

@@ -7,7 +7,7 @@ use Rattle.czi_doc.specs.View.{info_of, att_of}
 use Rattle.czi_seg.specs.View.{header_of}
 use Rattle.czi_image.specs.declared.segment.Segment.{Segment as CodeSegment}
 use Rattle.czi_image.specs.declared.header.Header.{Header as CodeHeader}
-use Rattle.czi_image.specs.declared.tiles.Directory.{Directory as CodeDirectory}
+use Rattle.czi_image.specs.declared.directory.Directory.{Directory as CodeDirectory}
 use Rattle.czi_image.specs.declared.tiles.Tiles.{Tiles as CodeTiles}
 use Rattle.czi_image.specs.declared.attachments.Attachments.{Attachments as CodeAttachments}
 use Rattle.czi_image.specs.declared.reading.Live.{Live as CodeLive}

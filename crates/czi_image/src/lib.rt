@@ -2,6 +2,7 @@
 #![tactic(auto)]
 
 mod attachments;
+mod directory;
 mod entries;
 mod fault;
 mod header;
