@@ -181,3 +181,7 @@ short_a1 xs short = let no : nat_le 128 (length xs) ≡ false = lt-leb 128 (leng
     by_schema : (b : Bool) → given (b && false) (let e : A1 = record { info = record { guid = bytes_at xs 24 16; kind = bytes_at xs 40 8; name = bytes_at xs 48 80 }; position = i64_at xs 12 } in e) ≡ None
     by_schema true = refl
     by_schema false = refl
+
+pub long_a1 : (xs : List ℕ) (e : A1) → a1 xs ≡ Some e → 128 ≤ length xs
+unfolding a1
+long_a1 xs e is = leb-true _ _ (both_true (bytes_eq (bytes_at xs 0 2) (codes "A1")) (nat_le 128 (length xs)) (given_some _ _ e is).0).1

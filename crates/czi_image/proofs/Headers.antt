@@ -133,8 +133,9 @@ header_passes front n file head reads here fits settled =
     let own = own_segment front h (header_of 0 head) reads.stands here in
     let value : i32_at front 100 ≡ pos 0 = sym (ap (λ (z : FileHead). z.pending) reads.head) ∙ settled in
     let is : h ≡ file_header_of (record { file = file; head = head }) = header_is front h file head reads.stands reads.first reads.head here in
+    let passes : fault.◌>>◌ (unless (is_zero h.part) (refusals.multi_part h.part)) (fault.◌>>◌ (unless (is_zero (pos 0)) (refusals.pending (pos 0))) (Ok h)) ≡ Ok h = rw reads.first in
     by_rules front n h (pos 0) reads.stands (omega (arith, fits, ap (λ (z : Segment). z.allocated) own)) value
-    ∙ rw reads.first (ap (λ (z : FileHeader). let r : Result FileHeader Refusal = Ok z in r) is)
+    ∙ (passes ∙ ap (λ (z : FileHeader). let r : Result FileHeader Refusal = Ok z in r) is)
 
 pub header_pending : (front : List ℕ) (n : ℕ) (file : CodeFileHeader) (head : SegHeader) → ReadsHeader front file → header_at front 0 ≡ Some (header_of 0 head) → 32 + head.allocated ≤ n
     → (file.pending ≡ pos 0 → ⊥) → first_rules_in front n ≡ Err (refusals.pending file.pending)

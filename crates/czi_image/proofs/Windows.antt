@@ -24,6 +24,15 @@ i32_in_window image at n k fits = let part : bytes_at (bytes_at image at n) k 4 
 pub front_of_window : (image : List ℕ) (at n m : ℕ) → m ≤ n → bytes_at (bytes_at image at n) 0 m ≡ bytes_at image at m
 front_of_window image at n m fits = part_of_part image at n 0 m (omega arith) ∙ ap (λ (p : ℕ). bytes_at image p m) (let e : at + 0 ≡ at = omega arith in e)
 
+-- no place stands at a negative position
+pub nowhere : (image : List ℕ) (least : ℕ) (position : ℤ) → natural position ≡ None → IsTooNear image least position
+nowhere image least (pos n) none = absurd (cc)
+nowhere image least (negsuc n) none = λ at is. absurd (cc)
+
+pub place_of : (position : ℤ) (n : ℕ) → natural position ≡ Some n → (at : ℕ) → position ≡ pos at → at ≡ n
+place_of (pos m) n is at place = let same : m ≡ n = cc in let other : m ≡ at = cc in sym other ∙ same
+place_of (negsuc m) n is at place = cc
+
 -- the tests of a segment in one, and one after another
 tests_in_order : (a b c b' : Bool) (s : Segment) (f : Segment → Bool) (g : Segment → Bool) → b ≡ b' → f s ≡ a → g s ≡ (b' && c)
     → given (a && b && c) s ≡ given (f s) s >>= (λ t. given (g t) t)

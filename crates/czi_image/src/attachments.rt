@@ -21,7 +21,7 @@ ghost use Rattle.czi_image.specs.Windows.{in_window};
 use crate::directory::{Directory, read_attachment_directory};
 use crate::entries::{read_a1_entries, take_a1_entries};
 use crate::fault::ImageFault;
-use crate::segment::{Front, read_count, read_front, sound_in};
+use crate::segment::{read_count, read_front, sound_in};
 use crate::types::AttItem;
 use czi_doc::AttInfo;
 use czi_num::{Span, read_bytes};
@@ -71,7 +71,7 @@ fn read_attachment<R: Rig>(
     let (info, position) = entry;
     match read_front(rig, position, 288, size)? {
         None => Ok(None),
-        Some(Front { at, bytes }) => Ok(attachment_in(&bytes, info, at, size)),
+        Some(front) => Ok(attachment_in(&front.bytes, info, front.at, size)),
     }
 }
 

@@ -13,7 +13,7 @@ ghost use Rattle.czi_image.specs.Inside.{HoldsEntries, IsWithin};
 ghost use Rattle.czi_image.specs.View.{directory_of};
 ghost use Rattle.czi_image.specs.Windows.{in_window};
 
-use crate::segment::{Front, Segment, read_count, read_front, sound_in};
+use crate::segment::{Segment, read_count, read_front, sound_in};
 use czi_num::read_bytes;
 use czi_rig::{Failed, Rig};
 use czi_seg::SegId;
@@ -66,7 +66,7 @@ fn directory_at<R: Rig>(rig: &mut R, position: i64, size: u64) -> Result<Option<
 {
     match read_front(rig, position, 160, size)? {
         None => Ok(None),
-        Some(Front { at, bytes }) => Ok(directory_in(&bytes, at, size)),
+        Some(front) => Ok(directory_in(&front.bytes, front.at, size)),
     }
 }
 
@@ -85,7 +85,7 @@ fn attachment_directory_at<R: Rig>(
 {
     match read_front(rig, position, 288, size)? {
         None => Ok(None),
-        Some(Front { at, bytes }) => Ok(attachment_directory_in(&bytes, at, size)),
+        Some(front) => Ok(attachment_directory_in(&front.bytes, front.at, size)),
     }
 }
 

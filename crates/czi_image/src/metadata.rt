@@ -14,7 +14,7 @@ ghost use Rattle.czi_image.specs.View.{meta_item_of};
 ghost use Rattle.czi_image.specs.Windows.{in_window};
 
 use crate::fault::ImageFault;
-use crate::segment::{Front, read_front, sound_in};
+use crate::segment::{read_front, sound_in};
 use crate::types::MetaItem;
 use czi_body::read_meta_head;
 use czi_num::{Span, read_bytes};
@@ -49,7 +49,7 @@ fn metadata_at<R: Rig>(rig: &mut R, position: i64, size: u64) -> Result<Option<M
 {
     match read_front(rig, position, 288, size)? {
         None => Ok(None),
-        Some(Front { at, bytes }) => Ok(metadata_in(&bytes, at, size)),
+        Some(front) => Ok(metadata_in(&front.bytes, front.at, size)),
     }
 }
 

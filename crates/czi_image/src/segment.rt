@@ -45,10 +45,9 @@ pub(crate) fn read_front<const N: usize, R: Rig>(
     ensures untouched { Untouched R.Rig rig.old rig.new }
     ensures cause { HasCause File.Image (R.state rig.old) (R.state rig.new) result }
 {
-    if position < 0 {
-        return Ok(None);
-    }
-    let at = position as u64;
+    let Some(at) = natural(position) else {
+        return Ok(None)
+    };
     if at + least > size {
         return Ok(None);
     }
@@ -73,10 +72,21 @@ pub(crate) fn sound_in(front: &[u8], id: SegId, at: u64, size: u64) -> Option<Se
     if is_sound { Some(head) } else { None }
 }
 
-/// The number in the four bytes at the front of a segment's data, where it isn't negative.
-pub(crate) fn read_count(data: &[u8; 4]) -> Option<u32>
-    ensures { result ≡ natural (i32_at data.now 0) }
+/// A position that isn't negative is a place.
+fn natural(position: i64) -> Option<u64>
+    ensures { result ≡ natural position }
 {
-    let count = read_i32(data, 0);
+    if position < 0 {
+        None
+    } else {
+        Some(position as u64)
+    }
+}
+
+/// The number in the four bytes at the front of a segment's data, where it isn't negative.
+pub(crate) fn read_count(front: &[u8; 4]) -> Option<u32>
+    ensures { result ≡ natural (i32_at front.now 0) }
+{
+    let count = read_i32(front, 0);
     if count < 0 { None } else { Some(count as u32) }
 }

@@ -21,7 +21,7 @@ ghost use Rattle.czi_image.specs.Windows.{in_window};
 use crate::directory::{Directory, read_directory};
 use crate::entries::{read_entries, take_entries};
 use crate::fault::ImageFault;
-use crate::segment::{Front, read_front, sound_in};
+use crate::segment::{read_front, sound_in};
 use crate::types::Tile;
 use czi_body::read_sub_head;
 use czi_doc::EntryInfo;
@@ -70,7 +70,7 @@ fn read_tile<R: Rig>(rig: &mut R, entry: Entry, size: u64) -> Result<Option<Tile
 {
     match read_front(rig, entry.position, 288, size)? {
         None => Ok(None),
-        Some(Front { at, bytes }) => Ok(tile_in(&bytes, entry.info, at, size)),
+        Some(front) => Ok(tile_in(&front.bytes, entry.info, front.at, size)),
     }
 }
 
