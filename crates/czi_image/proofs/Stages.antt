@@ -143,3 +143,18 @@ behind_header image header = tile_rules image header.directory >>= (behind_tiles
 pub reads_first : (image : List ℕ) → reads_but_overlap image ≡ first_rules image >>= (behind_header image)
 unfolding reads_but_overlap
 reads_first image = refl
+
+pub after_header : (image : List ℕ) (h : FileHeader) → first_rules image ≡ Ok h → reads_but_overlap image ≡ tile_rules image h.directory >>= (behind_tiles image h)
+after_header image h is = reads_first image ∙ ap (λ r. r >>= (behind_header image)) is
+
+pub after_tiles : (image : List ℕ) (h : FileHeader) (t : Tiles) (place : ℤ) → first_rules image ≡ Ok h → place ≡ h.directory → tile_rules image place ≡ Ok t
+    → reads_but_overlap image ≡ attachment_rules image h.attachments >>= (behind_attachments image h t)
+after_tiles image h t place is here tiled =
+    after_header image h is ∙ ap (λ r. r >>= (behind_tiles image h)) (ap (tile_rules image) (sym here) ∙ tiled)
+
+pub after_attachments : (image : List ℕ) (h : FileHeader) (t : Tiles) (a : Attachments) (place where_attached : ℤ) → first_rules image ≡ Ok h → place ≡ h.directory → tile_rules image place ≡ Ok t
+    → where_attached ≡ h.attachments → attachment_rules image where_attached ≡ Ok a
+    → reads_but_overlap image ≡ metadata_rule image h.metadata >>= (λ metadata.
+    Ok (let live : Live = record { header = h; directory = t.directory; tiles = t.tiles; attdir = a.directory; attachments = a.items; metadata = metadata } in live))
+after_attachments image h t a place where_attached is here tiled there attached =
+    after_tiles image h t place is here tiled ∙ ap (λ r. r >>= (behind_attachments image h t)) (ap (attachment_rules image) (sym there) ∙ attached)
