@@ -18,7 +18,7 @@ pub returns-in-Ok-None-clause-refused : goal.returns-in-Ok-None-clause-refused
 unfolding subblock_rules
 returns-in-Ok-None-clause-refused g c = λ image is.
     let it = c.into_iter-entry-iterator.ensures.into_iter_gives in
-    let t = YieldsList-turn (YieldsList-from_vec c.args.entries.items it.0 (it.1 ∙ c.args.entries.ok.0)) c.loop-entry.yielded _ c.loop-entry.yielded_by _ _ c.in-Some.entry c.in-Some.is c.next.ensures.steps in
+    let t = YieldsList-turn (YieldsList-from_vec {s = c.into_iter-entry-iterator.result} c.args.entries.items it.0 (it.1 ∙ c.args.entries.ok.0)) c.loop-entry.yielded c.loop-entry.entry-iterator c.loop-entry.yielded_by c.next.result c.next.new.self c.in-Some.entry c.in-Some.is c.next.ensures.steps in
     let place : to_z w64 (of_z w64 c.in-Some.entry.position) ≡ c.in-Some.entry.position = search rules in
     let none = (rw c.in-Ok-None.field-0-is at c.in-Ok-None.ensures.found) image (seen_same _ _ Image image c.loop-entry.invariant.untouched.same is) in
     half_stops c.in-Some.entry (c.loop-entry.invariant.half image is) t.0 t.1 (sym none)
@@ -27,17 +27,17 @@ returns-in-Ok-None-clause-refused g c = λ image is.
 pub loop-entry-preserved : goal.loop-entry-preserved
 loop-entry-preserved g c =
     let it = c.into_iter-entry-iterator.ensures.into_iter_gives in
-    let t = YieldsList-turn (YieldsList-from_vec c.args.entries.items it.0 (it.1 ∙ c.args.entries.ok.0)) c.loop-entry.yielded _ c.loop-entry.yielded_by _ _ c.in-Some.entry c.in-Some.is c.next.ensures.steps in
+    let t = YieldsList-turn (YieldsList-from_vec {s = c.into_iter-entry-iterator.result} c.args.entries.items it.0 (it.1 ∙ c.args.entries.ok.0)) c.loop-entry.yielded c.loop-entry.entry-iterator c.loop-entry.yielded_by c.next.result c.next.new.self c.in-Some.entry c.in-Some.is c.next.ensures.steps in
     record {
       untouched = untouched_then g.R.Rig c.loop-entry.invariant.untouched c.read_tile.ensures.untouched;
       half = λ image is.
           let some = (rw (c.in-Ok-Some.field-0-is, c.in-Ok-Some.tile-is) at c.in-Ok-Some.ensures.found) image (seen_same _ _ Image image c.loop-entry.invariant.untouched.same is) in
-          rw (length_push, (c.in_ok-push.ensures {u = tt}).items) (half_next c.in-Some.entry c.in-Ok-Some.tile (c.loop-entry.invariant.half image is) t.0 t.1 (sym some));
+          rw (length_push, (c.in_ok-push-in-Ok-Some.ensures {u = tt}).items) (half_next c.in-Some.entry c.in-Ok-Some.tile (c.loop-entry.invariant.half image is) t.0 t.1 (sym some));
     }
 
 pub returns-clause-found : goal.returns-clause-found
 unfolding subblock_rules
 returns-clause-found g c = λ image is.
     let it = c.into_iter-entry-iterator.ensures.into_iter_gives in
-    let t = YieldsList-end (YieldsList-from_vec c.args.entries.items it.0 (it.1 ∙ c.args.entries.ok.0)) c.loop-entry.yielded _ c.loop-entry.yielded_by _ _ c.in-None.is c.next.ensures.steps in
+    let t = YieldsList-end (YieldsList-from_vec {s = c.into_iter-entry-iterator.result} c.args.entries.items it.0 (it.1 ∙ c.args.entries.ok.0)) c.loop-entry.yielded c.loop-entry.entry-iterator c.loop-entry.yielded_by c.next.result c.next.new.self c.in-None.is c.next.ensures.steps in
     half_ends (c.loop-entry.invariant.half image is) (omega (arith, t.1))
