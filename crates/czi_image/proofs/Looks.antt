@@ -55,8 +55,8 @@ unfolding meta_item meta_head
 meta_item_front = record {
   small = λ s bytes less. none_found (natural (i32_at bytes 0) >>= λ x. natural (i32_at bytes 4) >>= λ t. Some (let h : MetaHead = record { xml = x; tail = t } in h)) _ (λ h is. not_given (meta_end h) s.allocated _ (omega (arith, less)));
   same = λ s a b same.
-  let xml : i32_at a 0 ≡ i32_at b 0 = same_i32 a b 8 0 (omega arith) same in
-  let tail : i32_at a 4 ≡ i32_at b 4 = same_i32 a b 8 4 (omega arith) same in simp (xml, tail);
+      let xml : i32_at a 0 ≡ i32_at b 0 = same_i32 a b 8 0 (omega arith) same in
+      let tail : i32_at a 4 ≡ i32_at b 4 = same_i32 a b 8 4 (omega arith) same in simp (xml, tail);
 }
 
 -- the contents begin behind 256 bytes at least

@@ -52,8 +52,17 @@ fn attachment_in(front: &[u8; 36], info: AttInfo, at: u64, size: u64) -> Option<
     if 256 + bytes > head.allocated {
         return None;
     }
-    let span = Span { at, len: 32 + head.allocated };
-    Some(AttItem { info, span, head, walked: false, size: bytes })
+    let span = Span {
+        at,
+        len: 32 + head.allocated,
+    };
+    Some(AttItem {
+        info,
+        span,
+        head,
+        walked: false,
+        size: bytes,
+    })
 }
 
 /// Reads the attachment at an entry's position: a sound one has 288 bytes at least.
@@ -138,7 +147,10 @@ pub(crate) fn read_attachments<R: Rig>(
 {
     let directory = match read_attachment_directory(rig, position, size) {
         Ok(Some(Some(directory))) => directory,
-        Ok(Some(None)) => return Ok(Attachments { directory: None, items: Vec::new(alloc) }),
+        Ok(Some(None)) => return Ok(Attachments {
+            directory: None,
+            items: Vec::new(alloc),
+        }),
         Ok(None) => return Err(ImageFault::BadAttachment(position)),
         Err(_) => return Err(ImageFault::Device),
     };
@@ -146,5 +158,8 @@ pub(crate) fn read_attachments<R: Rig>(
         return Err(ImageFault::TooMany(position, u64::from(directory.count)));
     }
     let items = read_attached(alloc, rig, &directory, size)?;
-    Ok(Attachments { directory: Some(directory), items })
+    Ok(Attachments {
+        directory: Some(directory),
+        items,
+    })
 }

@@ -37,7 +37,10 @@ fn directory_in(front: &[u8; 36], at: u64, size: u64) -> Option<Directory>
     if head.allocated < 128 {
         return None;
     }
-    Some(Directory { segment: Segment { at, head }, count })
+    Some(Directory {
+        segment: Segment { at, head },
+        count,
+    })
 }
 
 /// The attachment directory whose front is the window. Its entries end within it.
@@ -52,7 +55,10 @@ fn attachment_directory_in(front: &[u8; 36], at: u64, size: u64) -> Option<Direc
     if head.allocated < 256 + 128 * u64::from(count) {
         return None;
     }
-    Some(Directory { segment: Segment { at, head }, count })
+    Some(Directory {
+        segment: Segment { at, head },
+        count,
+    })
 }
 
 /// Reads the directory at a position: a sound one has a header of 32 bytes and 128 bytes of data or more.

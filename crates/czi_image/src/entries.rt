@@ -118,7 +118,12 @@ pub(crate) fn read_a1_entries<R: Rig>(
     ensures untouched { Untouched R.Rig rig.old rig.new }
     ensures cause { IfErr result (HasRisen (R.state rig.old) (R.state rig.new)) }
 {
-    read_piece(alloc, rig, directory.segment.at + 288, 128 * u64::from(directory.count))
+    read_piece(
+        alloc,
+        rig,
+        directory.segment.at + 288,
+        128 * u64::from(directory.count),
+    )
 }
 
 /// The attachment entry at the front of the bytes.

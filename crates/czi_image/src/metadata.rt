@@ -35,8 +35,17 @@ fn metadata_in(front: &[u8; 40], at: u64, size: u64) -> Option<MetaItem>
     if 256 + xml + tail > head.allocated {
         return None;
     }
-    let span = Span { at, len: 32 + head.allocated };
-    Some(MetaItem { span, head, walked: false, xml, tail })
+    let span = Span {
+        at,
+        len: 32 + head.allocated,
+    };
+    Some(MetaItem {
+        span,
+        head,
+        walked: false,
+        xml,
+        tail,
+    })
 }
 
 /// Reads the metadata at a position: sound ones have 288 bytes at least.

@@ -55,9 +55,21 @@ fn tile_in(front: &[u8; 80], info: EntryInfo, at: u64, size: u64) -> Option<Tile
     if body.pixels > head.allocated || body.begin + meta + body.pixels + tail > head.allocated {
         return None;
     }
-    let span = Span { at, len: 32 + head.allocated };
+    let span = Span {
+        at,
+        len: 32 + head.allocated,
+    };
     let begin = at + 32 + body.begin;
-    Some(Tile { info, span, head, walked: false, begin, meta, pixels: body.pixels, tail })
+    Some(Tile {
+        info,
+        span,
+        head,
+        walked: false,
+        begin,
+        meta,
+        pixels: body.pixels,
+        tail,
+    })
 }
 
 /// Reads the subblock at an entry's position, by one read of 80 bytes: a sound one has 288 bytes at least.
@@ -137,7 +149,10 @@ pub(crate) fn read_tiles<R: Rig>(
 {
     let directory = match read_directory(rig, position, size) {
         Ok(Some(Some(directory))) => directory,
-        Ok(Some(None)) => return Ok(Tiles { directory: None, tiles: Vec::new(alloc) }),
+        Ok(Some(None)) => return Ok(Tiles {
+            directory: None,
+            tiles: Vec::new(alloc),
+        }),
         Ok(None) => return Err(ImageFault::BadDirectory(position)),
         Err(_) => return Err(ImageFault::Device),
     };
@@ -145,5 +160,8 @@ pub(crate) fn read_tiles<R: Rig>(
         return Err(ImageFault::TooMany(position, u64::from(directory.count)));
     }
     let tiles = read_listed(alloc, rig, &directory, size)?;
-    Ok(Tiles { directory: Some(directory), tiles })
+    Ok(Tiles {
+        directory: Some(directory),
+        tiles,
+    })
 }
