@@ -9,6 +9,8 @@ mod header;
 mod metadata;
 mod reading;
 mod segment;
+#[cfg(test)]
+mod tests;
 mod tiles;
 mod types;
 
