@@ -1,19 +1,18 @@
 -- The first rules over the first 112 bytes are those over the image.
-use Rattle.std.proofs.Common.{◌≡◌, ◌↔◌, ℕ, zero, suc, ◌+◌, ◌≤◌, ◌<◌, ℤ, pos, negsuc, take, List, length, nat_le, Bool, true, false, ◌&&◌, Option, Some, None, Result, Ok, Err, bytes_eq, refl, ap, sym, ◌∙◌, arith, subst}
-use Rattle.std.proofs.lemmas.Bool.{leb-true, le-leb, lt-leb}
+use Rattle.std.proofs.Common.{◌≡◌, ◌↔◌, ℕ, zero, suc, ◌+◌, ◌≤◌, ◌<◌, ℤ, pos, negsuc, take, List, length, nat_le, Bool, true, false, ◌&&◌, Option, Some, None, Result, Ok, Err, bytes_eq, refl, ap, sym, ◌∙◌, arith}
+use Rattle.std.proofs.lemmas.Bool.{le-leb, lt-leb}
 use Rattle.std.proofs.lemmas.List.{length-take}
 use Rattle.czi_format.specs.Bytes.{bytes_at, i32_at, i64_at}
-use Rattle.czi_format.specs.Partial.{◌>>=◌, natural, given, is_zero}
+use Rattle.czi_format.specs.Partial.{◌>>=◌, given, is_zero}
 use Rattle.czi_format.specs.FirstFault as fault
 use Rattle.czi_format.specs.FirstFault.{unless}
 use Rattle.czi_format.specs.Segment.{Segment, header_at, file_id}
-use Rattle.czi_format.specs.Live.{FileHeader, FileHead, front_header, front_head, file_header, has_header_sizes, header_fields, update_pending}
+use Rattle.czi_format.specs.Live.{FileHeader, FileHead, front_header, front_head, file_header, has_header_sizes, header_fields}
 use Rattle.czi_format.specs.HeaderRules as rules
 use Rattle.czi_format.specs.HeaderRules.{HeaderRefusal, header_rules}
 use Rattle.czi_format.specs.Refusals as refusals
 use Rattle.czi_format.specs.Refusals.{Refusal, first_rules}
-use Rattle.czi_format.proofs.Local.{Fronts, front_is}
-use Rattle.czi_format.proofs.Readings.{bind_some, given_some}
+use Rattle.czi_format.proofs.Local.{front_is}
 use Rattle.czi_format.proofs.HeaderRules.{front_passes}
 use Rattle.czi_seg.specs.View.{header_of}
 use Rattle.czi_seg.specs.HeaderView as view

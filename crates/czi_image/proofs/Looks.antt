@@ -1,12 +1,11 @@
 -- What each kind of segment looks at of its data.
-use Rattle.std.proofs.Common.{◌≡◌, ℕ, ◌+◌, ◌*◌, ◌≤◌, ◌<◌, max, pos, List, nat_le, Bool, true, false, Option, Some, None, refl, ap, sym, ◌∙◌, arith}
-use Rattle.std.proofs.lemmas.Bool.{leb-true, le-leb, lt-leb}
+use Rattle.std.proofs.Common.{◌≡◌, ℕ, ◌+◌, ◌*◌, ◌≤◌, ◌<◌, max, List, nat_le, false, Some, None, ap, sym, ◌∙◌, arith}
+use Rattle.std.proofs.lemmas.Bool.{lt-leb}
 use Rattle.czi_format.specs.Bytes.{bytes_at, i32_at, i64_at}
 use Rattle.czi_format.specs.Partial.{◌>>=◌, natural, given}
-use Rattle.czi_format.specs.Segment.{Segment}
 use Rattle.czi_format.specs.Entry.{Entry, A1}
 use Rattle.czi_format.specs.Contents.{SubHead, sub_head, sub_end, MetaHead, meta_head, meta_end, att_size, entry_count}
-use Rattle.czi_format.specs.Live.{Directory, directory, attachment_directory, Tile, tile, AttItem, att_item, MetaItem, meta_item}
+use Rattle.czi_format.specs.Live.{directory, attachment_directory, tile, att_item, meta_item}
 use Rattle.czi_format.proofs.Readings.{bind_some, given_some}
 use Rattle.czi_image.proofs.Windows.{ReadsFront, i32_in_window, i64_in_window, none_found}
 

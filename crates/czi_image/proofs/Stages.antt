@@ -1,16 +1,16 @@
 -- The rules, one after another, over what was read.
-use Rattle.std.proofs.Common.{◌≡◌, ℕ, zero, suc, ◌+◌, ◌-◌, ◌*◌, ◌≤◌, ◌<◌, ◌^◌, min, ℤ, pos, negsuc, List, [], ◌∷◌, map, take, drop, length, nat_le, Bool, true, false, Option, Some, None, option_map, Result, Ok, Err, refl, ap, sym, ◌∙◌, arith, ⊎_elim}
-use Rattle.std.proofs.lemmas.Bool.{leb-true, le-leb, lt-leb}
+use Rattle.std.proofs.Common.{◌≡◌, ℕ, zero, suc, ◌+◌, ◌-◌, ◌*◌, ◌≤◌, ◌<◌, ◌^◌, min, ℤ, pos, negsuc, List, [], take, drop, nat_le, true, false, Option, Some, None, Result, Ok, Err, refl, ap, sym, ◌∙◌, arith, ⊎_elim}
+use Rattle.std.proofs.lemmas.Bool.{le-leb, lt-leb}
 use Rattle.std.proofs.lemmas.Bool.Decides.{leb_tells}
 use Rattle.std.proofs.lemmas.List.{take-take, drop-drop}
 use Rattle.std.proofs.Math.Dec.{leb}
 use Rattle.czi_format.specs.Bytes.{bytes_at}
 use Rattle.czi_format.specs.Partial.{none_or}
-use Rattle.czi_format.specs.FirstFault.{◌>>=◌, ◌>>◌, unless, each, with_fault, one_after_another}
-use Rattle.czi_format.specs.Segment.{Segment, in_segment, directory_id, attdir_id, metadata_id}
+use Rattle.czi_format.specs.FirstFault.{◌>>=◌, each, with_fault, one_after_another}
+use Rattle.czi_format.specs.Segment.{in_segment, directory_id, attdir_id, metadata_id}
 use Rattle.czi_format.specs.Entry.{Entry, entry, entry_len, A1, a1, a1_len}
-use Rattle.czi_format.specs.Live.{FileHeader, Directory, Tile, AttItem, MetaItem, Live, directory, attachment_directory, meta_item}
-use Rattle.czi_format.specs.Shows.{count_of, entries, a1_entries, subblock_at, attachment_at}
+use Rattle.czi_format.specs.Live.{FileHeader, Directory, MetaItem, Live, directory, attachment_directory, meta_item}
+use Rattle.czi_format.specs.Shows.{entries, a1_entries, subblock_at, attachment_at}
 use Rattle.czi_format.specs.Refusals as refusals
 use Rattle.czi_format.specs.Refusals.{Refusal, Tiles, Attachments, first_rules, tile_rules, attachment_rules, metadata_rule, reads_but_overlap}
 use Rattle.czi_image.specs.Rules.{entry_rules, a1_rules, subblock_rules, item_rules, listed_rules, attached_rules}

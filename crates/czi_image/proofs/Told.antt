@@ -1,5 +1,5 @@
 -- Faults from one call to the next.
-use Rattle.std.proofs.Common.{◌≡◌, ℕ, ◌≤◌, List, Result, Ok, Err, refl, ap, ◌∙◌, arith, subst, sym, option_map, Option, Some}
+use Rattle.std.proofs.Common.{◌≡◌, ℕ, ◌≤◌, List, Result, Ok, Err, ap, ◌∙◌, arith, subst, sym, option_map, Some}
 use Rattle.std.specs.Prelude.{IfOk, IfErr}
 use Rattle.czi_rig.specs.declared.file.File.{File}
 use Rattle.czi_rig.specs.declared.file.File.TheVariants.{Image, Journal}

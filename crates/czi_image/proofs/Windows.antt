@@ -1,6 +1,5 @@
 -- What is read from a window is what is read from the image.
-use Rattle.std.proofs.Common.{◌≡◌, ℕ, zero, suc, ◌+◌, ◌≤◌, ◌<◌, ℤ, pos, negsuc, take, drop, List, length, nat_le, Bool, true, false, ◌&&◌, Option, Some, None, option_map, bytes_eq, refl, ap, sym, ◌∙◌, arith, subst, ◌⊎◌, ⊎_elim}
-use Rattle.std.proofs.lemmas.Bool.{leb-true, le-leb, lt-leb}
+use Rattle.std.proofs.Common.{◌≡◌, ℕ, zero, suc, ◌+◌, ◌≤◌, ◌<◌, ℤ, pos, negsuc, List, length, nat_le, Bool, true, false, ◌&&◌, Option, Some, None, option_map, bytes_eq, refl, ap, sym, ◌∙◌, arith, ⊎_elim}
 use Rattle.std.proofs.lemmas.Bool.Decides.{leb_tells}
 use Rattle.std.proofs.Math.Dec.{leb}
 use Rattle.czi_format.specs.Bytes.{bytes_at, i32_at, i64_at}

@@ -1,6 +1,6 @@
 -- What was read one after another, and what is still to be read.
 use Rattle.std.specs.Prelude.{◌≡◌, ℕ, ◌≤◌, List, ◌++◌, length, Some, Result, Ok, Err}
-use Rattle.czi_format.specs.Entry.{Entry, entry, entry_len}
+use Rattle.czi_format.specs.Entry.{entry, entry_len}
 use Rattle.czi_dv.specs.View.{entry_of}
 use Rattle.czi_dv.specs.declared.entry.Entry.{Entry as CodeEntry}
 

@@ -1,5 +1,5 @@
 -- The rules over what was read.
-use Rattle.std.specs.Prelude.{ℕ, ℤ, pos, List, Option, ok_or, Result, Ok}
+use Rattle.std.specs.Prelude.{ℕ, pos, List, Option, ok_or, Result, Ok}
 use Rattle.czi_format.specs.Bytes.{i32_at}
 use Rattle.czi_format.specs.Partial.{is_zero}
 use Rattle.czi_format.specs.FirstFault.{◌>>=◌, ◌>>◌, unless, with_fault, each, one_after_another}

@@ -1,5 +1,5 @@
 -- What was read, as the format's definitions see it.
-use Rattle.std.specs.Prelude.{◌+◌, ◌-◌, pos, map, Option, option_map}
+use Rattle.std.specs.Prelude.{◌+◌, ◌-◌, pos, map, option_map}
 use Rattle.czi_format.specs.Segment.{Segment}
 use Rattle.czi_format.specs.Live.{FileHeader, Directory, Tile, AttItem, MetaItem, Live}
 use Rattle.czi_format.specs.Refusals.{Tiles, Attachments}

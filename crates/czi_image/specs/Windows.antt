@@ -1,6 +1,6 @@
 -- What is read from the front of a segment, in place of the whole image.
 use Rattle.std.specs.Prelude.{◌≡◌, ℕ, ◌+◌, ◌<◌, ◌≤◌, ℤ, pos, List, ◌&&◌, nat_le, length, Option, bytes_eq}
-use Rattle.czi_format.specs.Bytes.{bytes_at, i32_at}
+use Rattle.czi_format.specs.Bytes.{bytes_at}
 use Rattle.czi_format.specs.Partial as partial
 use Rattle.czi_format.specs.Partial.{given, is_zero}
 use Rattle.czi_format.specs.Segment.{Segment, header_at}

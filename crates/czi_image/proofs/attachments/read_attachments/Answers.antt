@@ -1,4 +1,4 @@
-use Rattle.std.proofs.Common.{◌≡◌, ◌∙◌, ◌<◌, ◌≤◌, ◌^◌, ap, refl, sym, arith, rules, map, Some, None, Ok, Err, Result, List, ℕ, ℤ, to_z, of_z, w64}
+use Rattle.std.proofs.Common.{◌≡◌, ◌∙◌, ap, refl, sym, arith, rules, map, None, Ok, Err, Result, List, ℕ, ℤ, to_z, of_z, w64}
 use Rattle.std.proofs.lemmas.Result.{err_from_is_err_and}
 use Rattle.czi_rig.specs.declared.file.File.TheVariants.{Image}
 use Rattle.czi_format.specs.Partial.{none_or}
@@ -6,7 +6,6 @@ use Rattle.czi_format.specs.Segment.{in_segment, attdir_id}
 use Rattle.czi_format.specs.Live.{attachment_directory}
 use Rattle.czi_format.specs.Refusals.{Refusal, Attachments, bad_attachment, too_many}
 use Rattle.czi_image.specs.declared.types.AttItem.{AttItem}
-use Rattle.czi_image.specs.Rules.{attached_rules}
 use Rattle.czi_image.specs.View.{directory_of, att_item_of}
 use Rattle.czi_image.proofs.Stages as stages
 use Rattle.czi_image.proofs.Stages.{then_ok}

@@ -1,15 +1,12 @@
-use Rattle.std.proofs.Common.{◌≡◌, ◌∙◌, ◌<◌, ◌≤◌, ap, refl, sym, arith, rules, map, Some, None, Ok, Err, Result, List, ℕ, ℤ, to_z, of_z, w64, length}
+use Rattle.std.proofs.Common.{◌≡◌, ◌∙◌, ap, sym, arith, rules, Err, Result, List, ℤ, to_z, of_z, w64}
 use Rattle.std.proofs.lemmas.List.{length_push}
 use Rattle.std.proofs.lemmas.Iterator.Adapters.{YieldsList-from_vec}
 use Rattle.std.proofs.lemmas.Iterator.Consumers.{YieldsList-turn, YieldsList-end}
 use Rattle.czi_rig.specs.declared.file.File.TheVariants.{Image}
 use Rattle.czi_rig.proofs.Quiet.{untouched_then}
 use Rattle.czi_format.specs.Live.{AttItem}
-use Rattle.czi_format.specs.Shows.{attachment_at}
 use Rattle.czi_format.specs.Refusals.{Refusal, bad_attachment}
-use Rattle.czi_att.specs.View.{a1_of}
 use Rattle.czi_image.specs.Rules.{item_rules}
-use Rattle.czi_image.specs.View.{att_item_of}
 use Rattle.czi_image.proofs.Midway.{half_next, half_stops, half_ends}
 use Rattle.czi_image.proofs.Told.{seen_same}
 use Rattle.czi_image.proofs.attachments.read_each.Goals as goal

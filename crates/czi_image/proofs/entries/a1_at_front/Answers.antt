@@ -1,4 +1,4 @@
-use Rattle.std.proofs.Common.{◌≡◌, ◌∙◌, ap, sym, rules}
+use Rattle.std.proofs.Common.{◌∙◌, ap, sym}
 use Rattle.czi_format.specs.Entry.{a1}
 use Rattle.czi_image.proofs.Fronts.{short_a1, a1_of_front_128}
 use Rattle.czi_image.proofs.entries.a1_at_front.Goals as goal

@@ -1,11 +1,11 @@
-use Rattle.std.proofs.Common.{◌≡◌, ◌∙◌, ◌≤◌, ap, sym, pos, arith, Some, None, length, to_z, w64, List, Result, Err}
+use Rattle.std.proofs.Common.{◌≡◌, ◌∙◌, ap, sym, pos, arith, Some, to_z, w64, List, Result, Err}
 use Rattle.std.proofs.lemmas.Int.{to_z_pos}
 use Rattle.czi_format.specs.Entry.{A1, a1}
 use Rattle.czi_format.specs.Refusals.{Refusal, bad_attachment}
 use Rattle.czi_att.specs.View.{a1_of}
 use Rattle.czi_image.specs.Rules.{a1_rules}
 use Rattle.czi_image.proofs.Fronts.{long_a1}
-use Rattle.czi_image.proofs.Midway.{midway_begins, midway_next, midway_ends, midway_stops}
+use Rattle.czi_image.proofs.Midway.{midway_next, midway_ends, midway_stops}
 use Rattle.czi_image.proofs.entries.take_a1_entries.Goals as goal
 
 pub returns-in_default-clause-refused : goal.returns-in_default-clause-refused

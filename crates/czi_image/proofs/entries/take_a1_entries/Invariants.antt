@@ -1,4 +1,3 @@
-use Rattle.std.proofs.Common.{◌≡◌}
 use Rattle.czi_format.specs.Entry.{a1, a1_len}
 use Rattle.czi_att.specs.View.{a1_of}
 use Rattle.czi_image.proofs.Midway.{Midway}

@@ -1,11 +1,10 @@
-use Rattle.std.proofs.Common.{◌≡◌, ◌∙◌, ap, sym, pos, arith, Some, to_z, w64, List, Result, Err}
+use Rattle.std.proofs.Common.{◌≡◌, ◌∙◌, ap, sym, pos, arith, to_z, w64, List, Result, Err}
 use Rattle.std.proofs.lemmas.Int.{to_z_pos}
-use Rattle.czi_format.specs.Entry.{Entry, entry}
+use Rattle.czi_format.specs.Entry.{Entry}
 use Rattle.czi_format.specs.Refusals.{Refusal, bad_entry}
-use Rattle.czi_dv.specs.View.{entry_of}
 use Rattle.czi_image.specs.Rules.{entry_rules}
 use Rattle.czi_image.specs.Entries.{ReadsEntry}
-use Rattle.czi_image.proofs.Midway.{midway_begins, midway_next, midway_ends, midway_stops}
+use Rattle.czi_image.proofs.Midway.{midway_next, midway_ends, midway_stops}
 use Rattle.czi_image.proofs.entries.take_entries.Goals as goal
 
 pub returns-in-None-clause-refused : goal.returns-in-None-clause-refused

@@ -1,4 +1,3 @@
-use Rattle.std.proofs.Common.{◌≡◌}
 use Rattle.czi_format.specs.Entry.{entry, entry_len}
 use Rattle.czi_dv.specs.View.{entry_of}
 use Rattle.czi_image.proofs.Midway.{Midway}

@@ -1,4 +1,4 @@
-use Rattle.std.proofs.Common.{◌≡◌, ◌+◌, ◌≤◌, ◌<◌, ◌∙◌, ap, arith, sym, rules, subst, pos, Some, Result, Err, to_z, of_z, w32}
+use Rattle.std.proofs.Common.{◌≡◌, ◌∙◌, ap, arith, sym, rules, subst, Some, Result, Err, to_z, of_z, w32}
 use Rattle.czi_format.specs.Segment.{header_at}
 use Rattle.czi_format.specs.Live.{FileHeader}
 use Rattle.czi_format.specs.Refusals.{Refusal, pending}

@@ -1,4 +1,4 @@
-use Rattle.std.proofs.Common.{◌≡◌, ◌∙◌, ap, sym, rules, pos, ℤ, Option, Result, Err, to_z, of_z, w64}
+use Rattle.std.proofs.Common.{◌≡◌, ◌∙◌, ap, sym, rules, ℤ, Option, Result, Err, to_z, of_z, w64}
 use Rattle.czi_format.specs.Segment.{in_segment, metadata_id}
 use Rattle.czi_format.specs.Live.{MetaItem, meta_item}
 use Rattle.czi_format.specs.Refusals.{Refusal, bad_segment}

@@ -1,9 +1,9 @@
-use Rattle.std.proofs.Common.{◌≡◌, ◌∙◌, ap, refl, sym, rules, Ok, ℤ, to_z, of_z, w64, subst}
+use Rattle.std.proofs.Common.{◌≡◌, ◌∙◌, ap, refl, sym, rules, ℤ, to_z, of_z, w64, subst}
 use Rattle.std.proofs.lemmas.Result.{err_from_is_err_and}
 use Rattle.czi_rig.specs.declared.file.File.TheVariants.{Image}
 use Rattle.czi_format.specs.Refusals.{tile_rules, attachment_rules, metadata_rule}
 use Rattle.czi_image.specs.Faults.{Tells}
-use Rattle.czi_image.specs.View.{file_header_of, tiles_of, attachments_of, meta_item_of}
+use Rattle.czi_image.specs.View.{file_header_of, tiles_of, attachments_of}
 use Rattle.czi_image.proofs.Stages.{reads_first, behind_header, behind_tiles, behind_attachments, after_header, after_tiles, after_attachments, then_ok}
 use Rattle.czi_image.proofs.Told.{tells_first, tells_same, seen_same}
 use Rattle.czi_image.proofs.reading.read_live.Goals as goal

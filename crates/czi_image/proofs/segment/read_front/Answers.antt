@@ -1,4 +1,4 @@
-use Rattle.std.proofs.Common.{rules, to_z, of_z, w64, ℤ, Option, ◌≡◌, ◌+◌, ℕ, length, take, drop, pos, arith, sym, ap, ◌∙◌, List, replicate}
+use Rattle.std.proofs.Common.{rules, to_z, of_z, w64, ◌≡◌, ℕ, length, take, drop, arith, sym, ap, ◌∙◌}
 use Rattle.std.proofs.lemmas.List.{length-replicate}
 use Rattle.czi_format.specs.Bytes.{bytes_at}
 use Rattle.czi_format.specs.Partial.{natural}

@@ -1,9 +1,8 @@
-use Rattle.std.proofs.Common.{◌≡◌, ◌∙◌, ◌+◌, ap, refl, sym, map, Some, Ok, List, ℕ}
+use Rattle.std.proofs.Common.{◌∙◌, ◌+◌, ap, refl, Some}
 use Rattle.std.proofs.lemmas.Result.{err_from_is_err_and}
 use Rattle.czi_rig.specs.declared.file.File.TheVariants.{Image}
-use Rattle.czi_dv.specs.View.{entry_of}
 use Rattle.czi_image.specs.Rules.{entry_rules, subblock_rules}
-use Rattle.czi_image.specs.View.{directory_of, tile_of}
+use Rattle.czi_image.specs.View.{directory_of}
 use Rattle.czi_image.proofs.Stages.{listed_first, entries_in_window, then_ok}
 use Rattle.czi_image.proofs.Told.{ok_weaker, err_weaker, tells_first, tells_same, seen_same}
 use Rattle.czi_image.proofs.tiles.read_listed.Goals as goal

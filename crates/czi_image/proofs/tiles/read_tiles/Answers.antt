@@ -1,4 +1,4 @@
-use Rattle.std.proofs.Common.{◌≡◌, ◌∙◌, ◌<◌, ◌≤◌, ◌^◌, ap, refl, sym, arith, rules, map, Some, None, Ok, Err, Result, List, ℕ, ℤ, to_z, of_z, w64}
+use Rattle.std.proofs.Common.{◌≡◌, ◌∙◌, ap, refl, sym, arith, rules, map, None, Ok, Err, Result, List, ℕ, ℤ, to_z, of_z, w64}
 use Rattle.std.proofs.lemmas.Result.{err_from_is_err_and}
 use Rattle.czi_rig.specs.declared.file.File.TheVariants.{Image}
 use Rattle.czi_format.specs.Partial.{none_or}
@@ -6,7 +6,6 @@ use Rattle.czi_format.specs.Segment.{in_segment, directory_id}
 use Rattle.czi_format.specs.Live.{directory}
 use Rattle.czi_format.specs.Refusals.{Refusal, Tiles, bad_directory, too_many}
 use Rattle.czi_image.specs.declared.types.Tile.{Tile}
-use Rattle.czi_image.specs.Rules.{listed_rules}
 use Rattle.czi_image.specs.View.{directory_of, tile_of}
 use Rattle.czi_image.proofs.Stages as stages
 use Rattle.czi_image.proofs.Stages.{then_ok}
