@@ -1,0 +1,90 @@
+-- Faults from one call to the next.
+use Rattle.std.proofs.Common.{◌≡◌, ℕ, ◌≤◌, List, Result, Ok, Err, ap, ◌∙◌, arith, subst, sym, option_map, Some}
+use Rattle.std.specs.Prelude.{IfOk, IfErr}
+use Rattle.czi_rig.specs.declared.file.File.{File}
+use Rattle.czi_rig.specs.declared.file.File.TheVariants.{Image, Journal}
+use Rattle.czi_rig.specs.Disk.{Disk}
+use Rattle.czi_rig.specs.State.{State, SameAll, seen_of}
+use Rattle.czi_rig.specs.Passes.{GoesOn, Rose}
+use Rattle.czi_format.specs.FirstFault.{◌>>=◌}
+use Rattle.czi_format.specs.Refusals.{Refusal}
+use Rattle.czi_image.specs.declared.fault.ImageFault.{ImageFault}
+use Rattle.czi_image.specs.declared.fault.ImageFault.TheVariants.{NotCzi, MultiPart, Pending, BadDirectory, TooMany, BadEntry, BadSegment, BadAttachment, Overlap, Memory, Device}
+use Rattle.czi_image.specs.Faults.{Tells, HasRisen, IsNoDevice, IsOnlyCalls}
+
+err_first : {A B E : Type 0} (r : Result A E) (f : A → Result B E) (e : E) → r ≡ Err e → r >>= f ≡ Err e
+err_first r f e is = rw is
+
+-- what refuses first refuses all
+pub tells_first : {A B : Type 0} (r : Result A Refusal) (f : A → Result B Refusal) (fault : ImageFault) → Tells r fault → Tells (r >>= f) fault
+tells_first r f NotCzi t = err_first r f _ t
+tells_first r f (MultiPart part) t = err_first r f _ t
+tells_first r f (Pending value) t = err_first r f _ t
+tells_first r f (BadDirectory place) t = err_first r f _ t
+tells_first r f (TooMany place count) t = err_first r f _ t
+tells_first r f (BadEntry place) t = err_first r f _ t
+tells_first r f (BadSegment place) t = err_first r f _ t
+tells_first r f (BadAttachment place) t = err_first r f _ t
+tells_first r f (Overlap first second) t = t
+tells_first r f Memory t = tt
+tells_first r f Device t = tt
+
+-- the same of an equal answer
+pub tells_same : {A : Type 0} (r s : Result A Refusal) (fault : ImageFault) → r ≡ s → Tells s fault → Tells r fault
+tells_same r s fault same t = subst (λ x. Tells x fault) (sym same) t
+
+pub only_calls : {A : Type 0} (r : Result A Refusal) (fault : ImageFault) → IsOnlyCalls fault → Tells r fault
+only_calls r NotCzi c = absurd c
+only_calls r (MultiPart part) c = absurd c
+only_calls r (Pending value) c = absurd c
+only_calls r (BadDirectory place) c = absurd c
+only_calls r (TooMany place count) c = absurd c
+only_calls r (BadEntry place) c = absurd c
+only_calls r (BadSegment place) c = absurd c
+only_calls r (BadAttachment place) c = absurd c
+only_calls r (Overlap first second) c = absurd c
+only_calls r Memory c = tt
+only_calls r Device c = tt
+
+pub no_device : (old new : State) (fault : ImageFault) → IsNoDevice fault → HasRisen old new fault
+no_device old new NotCzi c = tt
+no_device old new (MultiPart part) c = tt
+no_device old new (Pending value) c = tt
+no_device old new (BadDirectory place) c = tt
+no_device old new (TooMany place count) c = tt
+no_device old new (BadEntry place) c = tt
+no_device old new (BadSegment place) c = tt
+no_device old new (BadAttachment place) c = tt
+no_device old new (Overlap first second) c = tt
+no_device old new Memory c = tt
+no_device old new Device c = absurd c
+
+-- what rose since a later moment rose since an earlier one
+pub rose_since : (old mid new : ℕ) → old ≤ mid → Rose mid new → Rose old new
+rose_since old mid new le rose = omega (arith, le, rose)
+
+pub risen_since : (old mid new : State) (fault : ImageFault) → GoesOn old mid → HasRisen mid new fault → HasRisen old new fault
+risen_since old mid new NotCzi on c = tt
+risen_since old mid new (MultiPart part) on c = tt
+risen_since old mid new (Pending value) on c = tt
+risen_since old mid new (BadDirectory place) on c = tt
+risen_since old mid new (TooMany place count) on c = tt
+risen_since old mid new (BadEntry place) on c = tt
+risen_since old mid new (BadSegment place) on c = tt
+risen_since old mid new (BadAttachment place) on c = tt
+risen_since old mid new (Overlap first second) on c = tt
+risen_since old mid new Memory on c = tt
+risen_since old mid new Device on c = rose_since _ _ _ on.image_faults c
+
+pub ok_weaker : {A E : Type 0} (r : Result A E) (P Q : A → Type 0) → ((x : A) → P x → Q x) → IfOk r P → IfOk r Q
+ok_weaker (Ok x) P Q h p = h x p
+ok_weaker (Err e) P Q h p = p
+
+pub err_weaker : {A E : Type 0} (r : Result A E) (P Q : E → Type 0) → ((e : E) → P e → Q e) → IfErr r P → IfErr r Q
+err_weaker (Ok x) P Q h p = p
+err_weaker (Err e) P Q h p = h e p
+
+-- what a read gives after calls that leave everything as it was
+pub seen_same : (s t : State) (f : File) (bytes : List ℕ) → SameAll s t → seen_of s f ≡ Some bytes → seen_of t f ≡ Some bytes
+seen_same s t Image bytes same is = ap (option_map (λ (disk : Disk). disk.seen)) same.image ∙ is
+seen_same s t Journal bytes same is = ap (option_map (λ (disk : Disk). disk.seen)) same.journal ∙ is

@@ -1,0 +1,40 @@
+use Rattle.std.proofs.Common.{◌≡◌, ◌∙◌, ap, sym, arith, rules, Err, Result, List, ℤ, to_z, of_z, w64}
+use Rattle.std.proofs.lemmas.List.{length_push}
+use Rattle.std.proofs.lemmas.Iterator.Adapters.{YieldsList-from_vec}
+use Rattle.std.proofs.lemmas.Iterator.Consumers.{YieldsList-turn, YieldsList-end}
+use Rattle.czi_rig.specs.declared.file.File.TheVariants.{Image}
+use Rattle.czi_rig.proofs.Quiet.{untouched_then}
+use Rattle.czi_format.specs.Live.{AttItem}
+use Rattle.czi_format.specs.Refusals.{Refusal, bad_attachment}
+use Rattle.czi_image.specs.Rules.{item_rules}
+use Rattle.czi_image.proofs.Midway.{half_next, half_stops, half_ends}
+use Rattle.czi_image.proofs.Told.{seen_same}
+use Rattle.czi_image.proofs.attachments.read_each.Goals as goal
+
+pub returns-in-Ok-None-clause-refused : goal.returns-in-Ok-None-clause-refused
+unfolding item_rules
+returns-in-Ok-None-clause-refused g c = λ image is.
+    let it = c.into_iter-entry-iterator.ensures.into_iter_gives in
+    let t = YieldsList-turn (YieldsList-from_vec {s = c.into_iter-entry-iterator.result} c.args.entries.items it.0 (it.1 ∙ c.args.entries.ok.0)) c.loop-entry.yielded c.loop-entry.entry-iterator c.loop-entry.yielded_by c.next.result c.next.new.self c.in-Some.entry c.in-Some.is c.next.ensures.steps in
+    let place : to_z w64 (of_z w64 c.in-Some.entry.1) ≡ c.in-Some.entry.1 = search rules in
+    let none = (rw c.in-Ok-None.field-0-is at c.in-Ok-None.ensures.found) image (seen_same _ _ Image image c.loop-entry.invariant.untouched.same is) in
+    half_stops c.in-Some.entry (c.loop-entry.invariant.half image is) t.0 t.1 (sym none)
+    ∙ ap (λ (z : ℤ). let r : Result (List AttItem) Refusal = Err (bad_attachment z) in r) (sym place)
+
+pub loop-entry-preserved : goal.loop-entry-preserved
+loop-entry-preserved g c =
+    let it = c.into_iter-entry-iterator.ensures.into_iter_gives in
+    let t = YieldsList-turn (YieldsList-from_vec {s = c.into_iter-entry-iterator.result} c.args.entries.items it.0 (it.1 ∙ c.args.entries.ok.0)) c.loop-entry.yielded c.loop-entry.entry-iterator c.loop-entry.yielded_by c.next.result c.next.new.self c.in-Some.entry c.in-Some.is c.next.ensures.steps in
+    record {
+      untouched = untouched_then g.R.Rig c.loop-entry.invariant.untouched c.read_attachment.ensures.untouched;
+      half = λ image is.
+          let some = (rw (c.in-Ok-Some.field-0-is, c.in-Ok-Some.item-is) at c.in-Ok-Some.ensures.found) image (seen_same _ _ Image image c.loop-entry.invariant.untouched.same is) in
+          rw (length_push, (c.in_ok-push-in-Ok-Some.ensures {u = tt}).items) (half_next c.in-Some.entry c.in-Ok-Some.item (c.loop-entry.invariant.half image is) t.0 t.1 (sym some));
+    }
+
+pub returns-clause-found : goal.returns-clause-found
+unfolding item_rules
+returns-clause-found g c = λ image is.
+    let it = c.into_iter-entry-iterator.ensures.into_iter_gives in
+    let t = YieldsList-end (YieldsList-from_vec {s = c.into_iter-entry-iterator.result} c.args.entries.items it.0 (it.1 ∙ c.args.entries.ok.0)) c.loop-entry.yielded c.loop-entry.entry-iterator c.loop-entry.yielded_by c.next.result c.next.new.self c.in-None.is c.next.ensures.steps in
+    half_ends (c.loop-entry.invariant.half image is) (omega (arith, t.1))

@@ -1,0 +1,68 @@
+-- What a fault tells of the image, and of the rig.
+use Rattle.std.specs.Prelude.{◌≡◌, ℕ, List, Result, Err}
+use Rattle.czi_rig.specs.State.{State}
+use Rattle.czi_rig.specs.Passes.{Rose}
+use Rattle.czi_format.specs.Refusals as refusals
+use Rattle.czi_format.specs.Refusals.{Refusal, reads_but_overlap}
+use Rattle.czi_image.specs.declared.fault.ImageFault.{ImageFault}
+use Rattle.czi_image.specs.declared.fault.ImageFault.TheVariants.{NotCzi, MultiPart, Pending, BadDirectory, TooMany, BadEntry, BadSegment, BadAttachment, Overlap, Memory, Device}
+
+-- the rules refuse with what the fault tells; want of memory and a failed call say nothing of the image
+abbrev pub Tells : {A : Type 0} → Result A Refusal → ImageFault → Type 0
+Tells answer NotCzi = answer ≡ Err refusals.not_czi
+Tells answer (MultiPart part) = answer ≡ Err (refusals.multi_part part)
+Tells answer (Pending value) = answer ≡ Err (refusals.pending value)
+Tells answer (BadDirectory place) = answer ≡ Err (refusals.bad_directory place)
+Tells answer (TooMany place count) = answer ≡ Err (refusals.too_many place count)
+Tells answer (BadEntry place) = answer ≡ Err (refusals.bad_entry place)
+Tells answer (BadSegment place) = answer ≡ Err (refusals.bad_segment place)
+Tells answer (BadAttachment place) = answer ≡ Err (refusals.bad_attachment place)
+Tells answer (Overlap first second) = ⊥
+Tells answer Memory = Unit {0}
+Tells answer Device = Unit {0}
+
+-- the fault tells the first rule that fails, of all but the last
+abbrev pub Refuses : List ℕ → ImageFault → Type 0
+Refuses image fault = Tells (reads_but_overlap image) fault
+
+-- a call fails only where the count of the image's faults rose
+abbrev pub HasRisen : State → State → ImageFault → Type 0
+HasRisen old new NotCzi = Unit {0}
+HasRisen old new (MultiPart part) = Unit {0}
+HasRisen old new (Pending value) = Unit {0}
+HasRisen old new (BadDirectory place) = Unit {0}
+HasRisen old new (TooMany place count) = Unit {0}
+HasRisen old new (BadEntry place) = Unit {0}
+HasRisen old new (BadSegment place) = Unit {0}
+HasRisen old new (BadAttachment place) = Unit {0}
+HasRisen old new (Overlap first second) = Unit {0}
+HasRisen old new Memory = Unit {0}
+HasRisen old new Device = Rose old.image_faults new.image_faults
+
+-- no call failed
+abbrev pub IsNoDevice : ImageFault → Type 0
+IsNoDevice NotCzi = Unit {0}
+IsNoDevice (MultiPart part) = Unit {0}
+IsNoDevice (Pending value) = Unit {0}
+IsNoDevice (BadDirectory place) = Unit {0}
+IsNoDevice (TooMany place count) = Unit {0}
+IsNoDevice (BadEntry place) = Unit {0}
+IsNoDevice (BadSegment place) = Unit {0}
+IsNoDevice (BadAttachment place) = Unit {0}
+IsNoDevice (Overlap first second) = Unit {0}
+IsNoDevice Memory = Unit {0}
+IsNoDevice Device = ⊥
+
+-- only a call failed, or memory was wanting: the image is refused by no rule
+abbrev pub IsOnlyCalls : ImageFault → Type 0
+IsOnlyCalls NotCzi = ⊥
+IsOnlyCalls (MultiPart part) = ⊥
+IsOnlyCalls (Pending value) = ⊥
+IsOnlyCalls (BadDirectory place) = ⊥
+IsOnlyCalls (TooMany place count) = ⊥
+IsOnlyCalls (BadEntry place) = ⊥
+IsOnlyCalls (BadSegment place) = ⊥
+IsOnlyCalls (BadAttachment place) = ⊥
+IsOnlyCalls (Overlap first second) = ⊥
+IsOnlyCalls Memory = Unit {0}
+IsOnlyCalls Device = Unit {0}

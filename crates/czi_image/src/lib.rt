@@ -1,0 +1,18 @@
+//! What a CZI image holds: all that the pointers of its file header reach, read over a rig.
+#![tactic(auto)]
+
+mod attachments;
+mod directory;
+mod entries;
+mod fault;
+mod header;
+mod metadata;
+mod reading;
+mod segment;
+#[cfg(test)]
+mod tests;
+mod tiles;
+mod types;
+
+pub use fault::ImageFault;
+pub use types::{AttItem, DirItem, Index, MetaItem, Tile};

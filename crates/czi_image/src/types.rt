@@ -1,0 +1,105 @@
+//! What an image was read as.
+
+ghost use Rattle.std.specs.Prelude.{◌≡◌, ◌+◌, ◌^◌, ◌≤◌};
+
+use czi_doc::{AttInfo, EntryInfo};
+use czi_num::Span;
+use czi_seg::{FileHeader, SegHeader};
+
+/// A live subblock. Its contents are the metadata, the pixels and the attachment, one behind the other.
+#[derive(Debug, Drop)]
+pub struct Tile {
+    /// What the directory entry says of it.
+    pub info: EntryInfo,
+    /// The extent of its segment in the image.
+    pub span: Span,
+    /// Its segment's header.
+    pub head: SegHeader,
+    /// Whether the walk stands on its segment.
+    pub walked: bool,
+    /// The place of the contents in the image.
+    pub begin: u64,
+    /// MetadataSize, in bytes.
+    pub meta: u64,
+    /// DataSize, in bytes.
+    pub pixels: u64,
+    /// AttachmentSize, in bytes.
+    pub tail: u64,
+    pub ghost extent: { span.len ≡ 32 + head.allocated },
+    pub ghost ends: { span.at + span.len ≤ 2 ^ 62 },
+    pub ghost begins: { span.at + 32 ≤ begin },
+    pub ghost contents: { begin + meta + pixels + tail ≤ span.at + span.len },
+}
+
+/// A live attachment. Its contents begin at place 256 of the segment's data.
+#[derive(Clone, Copy, Debug, PartialEq, Eq)]
+pub struct AttItem {
+    /// What the entry of the attachment directory says of it.
+    pub info: AttInfo,
+    /// The extent of its segment in the image.
+    pub span: Span,
+    /// Its segment's header.
+    pub head: SegHeader,
+    /// Whether the walk stands on its segment.
+    pub walked: bool,
+    /// DataSize, in bytes.
+    pub size: u64,
+    pub ghost extent: { span.len ≡ 32 + head.allocated },
+    pub ghost ends: { span.at + span.len ≤ 2 ^ 62 },
+    pub ghost contents: { 288 + size ≤ span.len },
+}
+
+/// The live metadata. Its contents, the XML and an attachment, begin at place 256 of the segment's data.
+#[derive(Clone, Copy, Debug, PartialEq, Eq)]
+pub struct MetaItem {
+    /// The extent of its segment in the image.
+    pub span: Span,
+    /// Its segment's header.
+    pub head: SegHeader,
+    /// Whether the walk stands on its segment.
+    pub walked: bool,
+    /// XmlSize, in bytes.
+    pub xml: u64,
+    /// AttachmentSize, in bytes.
+    pub tail: u64,
+    pub ghost extent: { span.len ≡ 32 + head.allocated },
+    pub ghost ends: { span.at + span.len ≤ 2 ^ 62 },
+    pub ghost contents: { 288 + xml + tail ≤ span.len },
+}
+
+/// A live directory, of subblocks or of attachments.
+#[derive(Clone, Copy, Debug, PartialEq, Eq)]
+pub struct DirItem {
+    /// The extent of its segment in the image.
+    pub span: Span,
+    /// Whether the walk stands on its segment.
+    pub walked: bool,
+    pub ghost ends: { span.at + span.len ≤ 2 ^ 62 },
+}
+
+/// All that an image holds, and where it lies.
+#[derive(Debug, Drop)]
+pub struct Index {
+    /// The file header.
+    pub header: FileHeader,
+    /// The image's length, in bytes.
+    pub length: u64,
+    /// The directory of subblocks, if there is one.
+    pub directory: Option<DirItem>,
+    /// The subblocks, in the order of the directory.
+    pub tiles: Vec<Tile>,
+    /// The directory of attachments, if there is one.
+    pub attdir: Option<DirItem>,
+    /// The attachments, in the order of their directory.
+    pub attachments: Vec<AttItem>,
+    /// The metadata, if there is any.
+    pub metadata: Option<MetaItem>,
+    /// The extents of `DELETED` segments, in order of place, that edits may write over.
+    pub extents: Vec<Span>,
+    /// How many segments of the walk are neither live nor `DELETED`.
+    pub unknown: u64,
+    /// Where the walk ends.
+    pub walk_end: u64,
+    pub ghost small: { length ≤ 2 ^ 62 },
+    pub ghost walked_within: { walk_end ≤ length },
+}
