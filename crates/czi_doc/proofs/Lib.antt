@@ -1,3 +1,4 @@
 pub mod Appended
 pub mod Ordered
 pub mod Equal
+pub mod Prefixes
