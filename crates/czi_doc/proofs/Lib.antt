@@ -2,3 +2,4 @@ pub mod Appended
 pub mod Ordered
 pub mod Equal
 pub mod Prefixes
+pub mod InTurn

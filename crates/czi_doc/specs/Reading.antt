@@ -57,13 +57,13 @@ abbrev pub stored_at : ℤ → List ℕ → Result (Read Sizes) ℕ
 stored_at size bytes = if begins_with 58 bytes then (do
   stored ← number_at (drop 1 bytes)
   Ok (record { it = record { size = size; stored = stored.it }; rest = stored.rest }))
-  else Ok (record { it = record { size = size; stored = size }; rest = bytes })
+    else Ok (record { it = record { size = size; stored = size }; rest = bytes })
 
 abbrev pub sizes_at : List ℕ → Result (Read Sizes) ℕ
 sizes_at bytes = if begins_with 58 bytes then (do
   size ← number_at (drop 1 bytes)
   stored_at size.it size.rest)
-  else Ok (record { it = record { size = pos 1; stored = pos 1 }; rest = bytes })
+    else Ok (record { it = record { size = pos 1; stored = pos 1 }; rest = bytes })
 
 unfoldable pub item_at : List ℕ → Result (Read Dim) ℕ
 item_at bytes = do

@@ -12,6 +12,7 @@ pub use dimensions::{Dim, Dims, ItemFault};
 pub use fault::TextFault;
 pub use items::{AttInfo, Bytes, EntryInfo};
 pub use keys::{Key, equal_keys};
+pub use reading::read_dims;
 pub use writing::write_dims;
 
 #[cfg(test)]

@@ -2,11 +2,13 @@
 
 ghost use Rattle.std.specs.Prelude.{◌≡◌, ◌+◌, ◌-◌, ◌^◌, ◌≤◌, ◌<◌, ◌++◌, length, replicate, MatchOption, MatchResult};
 ghost use Rattle.std.specs.Str.Parse.{AllDigits, digits_value};
-ghost use Rattle.czi_doc.specs.View.{dim_of};
-ghost use Rattle.czi_doc.specs.Reading.{Read, Sizes, name_len, name_at, number_len, magnitude_at, negative_at, positive_at, begins_with, number_at, stored_at, sizes_at, item_at};
-ghost use Rattle.czi_doc.specs.Seen.{seen};
+ghost use Rattle.czi_doc.specs.View.{dim_of, dims_of};
+ghost use Rattle.czi_doc.specs.Reading.{Read, Sizes, name_len, name_at, number_len, magnitude_at, negative_at, positive_at, begins_with, number_at, stored_at, sizes_at, item_at, items_at};
+ghost use Rattle.czi_doc.specs.Seen.{Tells, seen};
 
-use crate::dimensions::Dim;
+use crate::dimensions::{Dim, Dims};
+use crate::fault::TextFault;
+use std::alloc::Global;
 
 /// How many letters from A to Z stand at the front, of at most four.
 fn name_len(text: &[u8]) -> usize
@@ -70,7 +72,9 @@ fn magnitude(digits: &[u8]) -> Option<u32>
 {
     let mut value: u32 = 0;
     for digit in digits {
-        value = value.checked_mul(10)?.checked_add(u32::from(*digit - b'0'))?;
+        value = value
+            .checked_mul(10)?
+            .checked_add(u32::from(*digit - b'0'))?;
     }
     Some(value)
 }
@@ -167,4 +171,36 @@ fn read_item(text: &[u8]) -> Result<(Dim, &[u8]), usize>
         },
         rest,
     ))
+}
+
+/// The dimensions that a dimension text spells: one to 40 items joined by commas, each a name of one to four
+/// letters from A to Z, a start, and optionally `:` and a size (1 where it is missing), and after it optionally
+/// `:` and a stored size (the size where it is missing). All three are signed 32-bit numbers in decimal,
+/// without a leading zero, and `-0` is none. The coordinate bytes are zero.
+pub fn read_dims(alloc: Global, text: &[u8]) -> Result<Dims, TextFault>
+    ensures { Tells text.now dims_of result (items_at 40 text.now) }
+{
+    let mut dims = Vec::new(alloc);
+    let mut rest = text;
+    for i in 0..40usize {
+        let (dim, behind) = match read_item(rest) {
+            Ok(item) => item,
+            Err(left) => return Err(TextFault::Bad(text.len() - left)),
+        };
+        let Ok(()) = dims.push(dim) else {
+            return Err(TextFault::Memory);
+        };
+        if behind.is_empty() {
+            return match Dims::new(dims) {
+                Ok(dims) => Ok(dims),
+                Err(_) => Err(TextFault::Memory),
+            };
+        }
+        if !begins_with(behind, b',') {
+            return Err(TextFault::Bad(text.len() - behind.len()));
+        }
+        let (_, next) = behind.split_at(1);
+        rest = next;
+    }
+    Err(TextFault::Bad(text.len() - rest.len() - 1))
 }
