@@ -3,3 +3,4 @@ pub mod Ordered
 pub mod Equal
 pub mod Prefixes
 pub mod InTurn
+pub mod Spelled

@@ -1,0 +1,197 @@
+-- What is read is spelled so.
+use Rattle.std.proofs.Common.{◌≡◌, ℕ, zero, suc, ◌+◌, ◌-◌, ◌<◌, ◌≤◌, ℤ, pos, List, [], ◌∷◌, ◌++◌, take, drop, length, get_or, Bool, true, false, not, ◌&&◌, ◌==◌, nat_le, Result, Ok, Err, refl, ap, sym, ◌∙◌, subst, arith, inl, inr, w32, rules}
+use Rattle.std.specs.Prelude.{replicate, IsTrue, FitsSigned, neg_ℤ}
+use Rattle.std.specs.List.{prefix_len, AllByRecursion}
+use Rattle.std.specs.Char.{is_ascii_digit}
+use Rattle.std.specs.Str.Parse.{AllDigits, digits_value}
+use Rattle.std.proofs.lemmas.Bool.{cases_Bool, eqb-true, leb-true}
+use Rattle.std.proofs.lemmas.Bool.Decides.{nat_tests}
+use Rattle.std.proofs.lemmas.List.{take-append-drop, length-take-le}
+use Rattle.std.proofs.lemmas.Int.{ints}
+use Rattle.czi_format.specs.DimText.{IsNatural, IsNumber, IsName, is_letter}
+use Rattle.czi_doc.specs.Reading.{Read, name_len, name_at, number_len, magnitude_at, negative_at, positive_at, begins_with, number_at}
+use Rattle.czi_doc.proofs.Prefixes.{front_digits}
+
+same_ok : {X : Type 0} (x y : X) (r : Result X ℕ) → r ≡ Ok x → r ≡ Ok y → x ≡ y
+same_ok x y r p q = cc
+
+no_err : {X : Type 0} {P : Type 0} (left : ℕ) (y : X) (r : Result X ℕ) → r ≡ Err left → r ≡ Ok y → P
+no_err left y r p q = cc
+
+pub record LettersAt (n : ℕ) (bytes : List ℕ) (k : ℕ) : Type 0 where
+  pub few : k ≤ n
+  pub inside : k ≤ length bytes
+  pub letters : AllByRecursion (λ b. IsTrue (is_letter b)) (take k bytes)
+
+letters_at : (n : ℕ) (bytes : List ℕ) → LettersAt n bytes (prefix_len is_letter (take n bytes))
+letters_at zero bytes = record { few = omega arith; inside = omega arith; letters = tt }
+letters_at (suc n) [] = record { few = omega arith; inside = omega arith; letters = tt }
+letters_at (suc n) (b ∷ bytes) = elim (cases_Bool (is_letter b)) [
+  | inl e ↦ let k : ℕ = prefix_len is_letter (take n bytes) in
+      let one : 1 + k ≡ suc k = omega arith in
+      let rest : LettersAt n bytes k = letters_at n bytes in
+      subst (LettersAt (suc n) (b ∷ bytes)) (sym (more e ∙ one)) (record { few = omega (arith, rest.few); inside = omega (arith, rest.inside); letters = (e, rest.letters) })
+  | inr e ↦ subst (LettersAt (suc n) (b ∷ bytes)) (sym (none e)) (record { few = omega arith; inside = omega arith; letters = tt })
+]
+  where
+    more : is_letter b ≡ true → prefix_len is_letter (b ∷ take n bytes) ≡ 1 + prefix_len is_letter (take n bytes)
+    more e = rw e
+
+    none : is_letter b ≡ false → prefix_len is_letter (b ∷ take n bytes) ≡ 0
+    none e = rw e
+
+pub record NameAt (bytes : List ℕ) (r : Read (List ℕ)) : Type 0 where
+  pub name : List ℕ
+  pub is_name : IsName name
+  pub whole : bytes ≡ name ++ r.rest
+  pub padded : r.it ≡ name ++ replicate (4 - length name) 0
+
+name_there : (bytes : List ℕ) → (name_len bytes == 0) ≡ false → NameAt bytes (record { it = take (name_len bytes) bytes ++ replicate (4 - name_len bytes) 0; rest = drop (name_len bytes) bytes })
+name_there bytes test =
+    let k : ℕ = name_len bytes in
+    let l : LettersAt 4 bytes k = letters_at 4 bytes in
+    let some : 0 < k = grind (arith, nat_tests) in
+    let long : length (take k bytes) ≡ k = length-take-le k bytes l.inside in
+    record {
+      name = take k bytes;
+      is_name = record { letters = l.letters; some = omega (arith, some, long); few = omega (arith, long, l.few) };
+      whole = sym (take-append-drop k bytes);
+      padded = ap (λ n. take k bytes ++ replicate (4 - n) 0) (sym long);
+    }
+
+pub name_found : (bytes : List ℕ) (r : Read (List ℕ)) → name_at bytes ≡ Ok r → NameAt bytes r
+unfolding name_at
+name_found bytes r e = elim (cases_Bool (name_len bytes == 0)) [
+  | inl t ↦ no_err (length bytes) r (name_at bytes) (rw t) e
+  | inr t ↦ subst (NameAt bytes) (same_ok _ r (name_at bytes) (rw t) e) (name_there bytes t)
+]
+
+lean_front : (bytes : List ℕ) → get_or (take (number_len bytes) bytes) 0 0 ≡ 48 → length (take (number_len bytes) bytes) ≡ 1
+lean_front [] e = absurd (omega arith)
+lean_front (b ∷ bytes) e = elim (cases_Bool (b == 48)) [
+  | inl t ↦ ap (λ n. length (take n (b ∷ bytes))) (zero_first t)
+  | inr t ↦ absurd (other t (prefix_len is_ascii_digit (b ∷ bytes)) (ap (λ n. get_or (take n (b ∷ bytes)) 0 0) (sym (run t)) ∙ e))
+]
+  where
+    zero_first : (b == 48) ≡ true → number_len (b ∷ bytes) ≡ 1
+    zero_first t = rw t
+
+    run : (b == 48) ≡ false → number_len (b ∷ bytes) ≡ prefix_len is_ascii_digit (b ∷ bytes)
+    run t = rw t
+
+    other : (b == 48) ≡ false → (n : ℕ) → get_or (take n (b ∷ bytes)) 0 0 ≡ 48 → ⊥
+    other t zero e = omega arith
+    other t (suc n) e = grind (arith, nat_tests)
+
+prefix_inside : (bytes : List ℕ) → prefix_len is_ascii_digit bytes ≤ length bytes
+prefix_inside [] = omega arith
+prefix_inside (b ∷ bytes) = elim (cases_Bool (is_ascii_digit b)) [
+  | inl e ↦ omega (arith, more e, prefix_inside bytes)
+  | inr e ↦ omega (arith, none e)
+]
+  where
+    more : is_ascii_digit b ≡ true → prefix_len is_ascii_digit (b ∷ bytes) ≡ 1 + prefix_len is_ascii_digit bytes
+    more e = rw e
+
+    none : is_ascii_digit b ≡ false → prefix_len is_ascii_digit (b ∷ bytes) ≡ 0
+    none e = rw e
+
+number_inside : (bytes : List ℕ) → number_len bytes ≤ length bytes
+number_inside [] = omega arith
+number_inside (b ∷ bytes) = elim (cases_Bool (b == 48)) [
+  | inl e ↦ omega (arith, zero_first e)
+  | inr e ↦ omega (arith, run e, prefix_inside (b ∷ bytes))
+]
+  where
+    zero_first : (b == 48) ≡ true → number_len (b ∷ bytes) ≡ 1
+    zero_first t = rw t
+
+    run : (b == 48) ≡ false → number_len (b ∷ bytes) ≡ prefix_len is_ascii_digit (b ∷ bytes)
+    run t = rw t
+
+natural_front : (bytes : List ℕ) → 0 < length (take (number_len bytes) bytes) → IsNatural (take (number_len bytes) bytes) (magnitude_at bytes)
+natural_front bytes some = record { digits = (some, front_digits bytes); lean = lean_front bytes; value = refl }
+
+pub record NumberAt (bytes : List ℕ) (r : Read ℤ) : Type 0 where
+  pub number : List ℕ
+  pub is_number : IsNumber number r.it
+  pub fits : FitsSigned w32 r.it
+  pub whole : bytes ≡ number ++ r.rest
+
+fits_pos : (n : ℕ) → n ≤ 2147483647 → FitsSigned w32 (pos n)
+fits_pos n h = record { sfits = omega arith }
+
+fits_neg : (n : ℕ) → n ≤ 2147483648 → FitsSigned w32 (neg_ℤ (pos n))
+fits_neg zero h = record { sfits = omega arith }
+fits_neg (suc n) h = record { sfits = omega arith }
+
+neg_number : (n : ℕ) (digits : List ℕ) → (n == 0) ≡ false → IsNatural digits n → IsNumber (45 ∷ digits) (neg_ℤ (pos n))
+neg_number zero digits some natural = cc
+neg_number (suc n) digits some natural = (digits, refl, subst (IsNatural digits) (omega arith) natural)
+
+front_is : (b : ℕ) (bytes : List ℕ) → begins_with b bytes ≡ true → bytes ≡ b ∷ drop 1 bytes
+front_is b [] e = cc
+front_is b (c ∷ bytes) e = ap (λ z. z ∷ bytes) (eqb-true c b (second _ _ e))
+  where
+    second : (s t : Bool) → (s && t) ≡ true → t ≡ true
+    second true t h = h
+    second false t h = cc
+
+positive_found : (bytes : List ℕ) (r : Read ℤ) → positive_at bytes ≡ Ok r → NumberAt bytes r
+unfolding positive_at
+positive_found bytes r e = elim (cases_Bool (number_len bytes == 0)) [
+  | inl t ↦ no_err (length bytes) r (positive_at bytes) (rw t) e
+  | inr t ↦ elim (cases_Bool (nat_le (magnitude_at bytes) 2147483647)) [
+    | inr u ↦ no_err (length bytes) r (positive_at bytes) (rw (t, u)) e
+    | inl u ↦ subst (NumberAt bytes) (same_ok _ r (positive_at bytes) (rw (t, u)) e) (there t (leb-true _ _ u))
+  ]
+]
+  where
+    there : (number_len bytes == 0) ≡ false → magnitude_at bytes ≤ 2147483647 → NumberAt bytes (record { it = pos (magnitude_at bytes); rest = drop (number_len bytes) bytes })
+    there t small = record {
+      number = take (number_len bytes) bytes;
+      is_number = natural_front bytes (long t);
+      fits = fits_pos (magnitude_at bytes) small;
+      whole = sym (take-append-drop (number_len bytes) bytes);
+    }
+      where
+        long : (number_len bytes == 0) ≡ false → 0 < length (take (number_len bytes) bytes)
+        long t = let n : 0 < number_len bytes = grind (arith, nat_tests) in omega (arith, n, length-take-le (number_len bytes) bytes (number_inside bytes))
+
+-- some digits spell a number other than 0
+some_digits : (bytes : List ℕ) → (magnitude_at bytes == 0) ≡ false → 0 < length (take (number_len bytes) bytes)
+some_digits bytes t = by_front (take (number_len bytes) bytes) t
+  where
+    by_front : (ds : List ℕ) → (digits_value 10 ds == 0) ≡ false → 0 < length ds
+    by_front [] e = cc
+    by_front (d ∷ ds) e = omega arith
+
+negative_found : (bytes : List ℕ) (r : Read ℤ) → negative_at bytes ≡ Ok r → NumberAt (45 ∷ bytes) r
+unfolding negative_at
+negative_found bytes r e = elim (cases_Bool (magnitude_at bytes == 0)) [
+  | inl t ↦ no_err (length bytes) r (negative_at bytes) (rw t) e
+  | inr t ↦ elim (cases_Bool (nat_le (magnitude_at bytes) 2147483648)) [
+    | inr u ↦ no_err (suc (length bytes)) r (negative_at bytes) (rw (t, u)) e
+    | inl u ↦ subst (NumberAt (45 ∷ bytes)) (same_ok _ r (negative_at bytes) (rw (t, u)) e) (there t (leb-true _ _ u))
+  ]
+]
+  where
+    there : (magnitude_at bytes == 0) ≡ false → magnitude_at bytes ≤ 2147483648 → NumberAt (45 ∷ bytes) (record { it = neg_ℤ (pos (magnitude_at bytes)); rest = drop (number_len bytes) bytes })
+    there t small = record {
+      number = 45 ∷ take (number_len bytes) bytes;
+      is_number = neg_number (magnitude_at bytes) (take (number_len bytes) bytes) t (natural_front bytes (some_digits bytes t));
+      fits = fits_neg (magnitude_at bytes) small;
+      whole = ap (λ l. 45 ∷ l) (sym (take-append-drop (number_len bytes) bytes));
+    }
+
+pub number_found : (bytes : List ℕ) (r : Read ℤ) → number_at bytes ≡ Ok r → NumberAt bytes r
+number_found bytes r e = elim (cases_Bool (begins_with 45 bytes)) [
+  | inl t ↦ subst (λ l. NumberAt l r) (sym (front_is 45 bytes t)) (negative_found (drop 1 bytes) r (sym (minus t) ∙ e))
+  | inr t ↦ positive_found bytes r (sym (plus t) ∙ e)
+]
+  where
+    minus : begins_with 45 bytes ≡ true → number_at bytes ≡ negative_at (drop 1 bytes)
+    minus t = rw t
+
+    plus : begins_with 45 bytes ≡ false → number_at bytes ≡ positive_at bytes
+    plus t = rw t
