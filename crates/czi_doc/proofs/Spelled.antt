@@ -1,5 +1,5 @@
 -- What is read is spelled so.
-use Rattle.std.proofs.Common.{◌≡◌, ℕ, zero, suc, ◌+◌, ◌-◌, ◌<◌, ◌≤◌, ℤ, pos, List, [], ◌∷◌, ◌++◌, take, drop, length, get_or, Bool, true, false, not, ◌&&◌, ◌==◌, nat_le, Result, Ok, Err, refl, ap, sym, ◌∙◌, subst, arith, inl, inr, w32, rules}
+use Rattle.std.proofs.Common.{◌≡◌, ℕ, zero, suc, ◌+◌, ◌-◌, ◌<◌, ◌≤◌, ℤ, pos, List, [], ◌∷◌, ◌++◌, take, drop, length, get_or, Bool, true, false, not, ◌&&◌, ◌==◌, nat_le, Result, Ok, Err, refl, ap, sym, ◌∙◌, subst, arith, inl, inr, w32, append_assoc, append-nil}
 use Rattle.std.specs.Prelude.{replicate, IsTrue, FitsSigned, neg_ℤ}
 use Rattle.std.specs.List.{prefix_len, AllByRecursion}
 use Rattle.std.specs.Char.{is_ascii_digit}
@@ -7,9 +7,10 @@ use Rattle.std.specs.Str.Parse.{AllDigits, digits_value}
 use Rattle.std.proofs.lemmas.Bool.{cases_Bool, eqb-true, leb-true}
 use Rattle.std.proofs.lemmas.Bool.Decides.{nat_tests}
 use Rattle.std.proofs.lemmas.List.{take-append-drop, length-take-le}
-use Rattle.std.proofs.lemmas.Int.{ints}
-use Rattle.czi_format.specs.DimText.{IsNatural, IsNumber, IsName, is_letter}
-use Rattle.czi_doc.specs.Reading.{Read, name_len, name_at, number_len, magnitude_at, negative_at, positive_at, begins_with, number_at}
+use Rattle.czi_format.specs.DimText.{IsNatural, IsNumber, IsName, AreSizes, IsItem, AreItems, IsInRange, IsDimText, is_letter}
+use Rattle.czi_format.specs.FirstFault.{◌>>=◌}
+use Rattle.czi_format.specs.Entry.{Dim}
+use Rattle.czi_doc.specs.Reading.{Read, name_len, name_at, number_len, magnitude_at, negative_at, positive_at, begins_with, number_at, Sizes, stored_at, sizes_at, item_at, behind, items_at}
 use Rattle.czi_doc.proofs.Prefixes.{front_digits}
 
 same_ok : {X : Type 0} (x y : X) (r : Result X ℕ) → r ≡ Ok x → r ≡ Ok y → x ≡ y
@@ -195,3 +196,90 @@ number_found bytes r e = elim (cases_Bool (begins_with 45 bytes)) [
 
     plus : begins_with 45 bytes ≡ false → number_at bytes ≡ positive_at bytes
     plus t = rw t
+
+record Bound {A B : Type 0} (r : Result A ℕ) (f : A → Result B ℕ) (y : B) : Type 0 where
+  first : A
+  is : r ≡ Ok first
+  then_is : f first ≡ Ok y
+
+bind_ok : {A B : Type 0} (r : Result A ℕ) (f : A → Result B ℕ) (y : B) → (r >>= f) ≡ Ok y → Bound r f y
+bind_ok (Ok x) f y e = record { first = x; is = refl; then_is = e }
+bind_ok (Err left) f y e = cc
+
+pub record SizesAt (bytes : List ℕ) (r : Read Sizes) : Type 0 where
+  pub text : List ℕ
+  pub are_sizes : AreSizes text r.it.size r.it.stored
+  pub size_fits : FitsSigned w32 r.it.size
+  pub stored_fits : FitsSigned w32 r.it.stored
+  pub whole : bytes ≡ text ++ r.rest
+
+stored_found : (size : ℤ) (a bytes : List ℕ) (r : Read Sizes) → IsNumber a size → FitsSigned w32 size → stored_at size bytes ≡ Ok r → SizesAt (58 ∷ (a ++ bytes)) r
+stored_found size a bytes r number fits e = elim (cases_Bool (begins_with 58 bytes)) [
+  | inl t ↦ two t (bind_ok (number_at (drop 1 bytes)) _ r (sym (there t) ∙ e))
+  | inr t ↦ subst (SizesAt (58 ∷ (a ++ bytes))) (same_ok _ r (stored_at size bytes) (rw t) e)
+      (record { text = 58 ∷ a; are_sizes = inr (inl (a, refl, number, refl)); size_fits = fits; stored_fits = fits; whole = refl })
+]
+  where
+    there : begins_with 58 bytes ≡ true → stored_at size bytes ≡ (number_at (drop 1 bytes) >>= λ stored. Ok (record { it = record { size = size; stored = stored.it }; rest = stored.rest }))
+    there t = rw t
+
+    two : begins_with 58 bytes ≡ true → Bound (number_at (drop 1 bytes)) (λ stored. Ok (record { it = record { size = size; stored = stored.it }; rest = stored.rest })) r → SizesAt (58 ∷ (a ++ bytes)) r
+    two t b =
+        let n : NumberAt (drop 1 bytes) b.first = number_found (drop 1 bytes) b.first b.is in
+        let all : bytes ≡ 58 ∷ (n.number ++ b.first.rest) = front_is 58 bytes t ∙ ap (λ l. 58 ∷ l) n.whole in
+        subst (SizesAt (58 ∷ (a ++ bytes))) (same_ok _ r _ refl b.then_is) (record {
+          text = 58 ∷ (a ++ 58 ∷ n.number);
+          are_sizes = inr (inr (a, n.number, refl, number, n.is_number));
+          size_fits = fits;
+          stored_fits = n.fits;
+          whole = ap (λ l. 58 ∷ (a ++ l)) all ∙ ap (λ l. 58 ∷ l) (sym (append_assoc a (58 ∷ n.number) b.first.rest));
+        })
+
+pub sizes_found : (bytes : List ℕ) (r : Read Sizes) → sizes_at bytes ≡ Ok r → SizesAt bytes r
+sizes_found bytes r e = elim (cases_Bool (begins_with 58 bytes)) [
+  | inl t ↦ some t (bind_ok (number_at (drop 1 bytes)) _ r (sym (there t) ∙ e))
+  | inr t ↦ subst (SizesAt bytes) (same_ok _ r (sizes_at bytes) (rw t) e)
+      (record { text = []; are_sizes = inl (refl, refl, refl); size_fits = fits_pos 1 (omega arith); stored_fits = fits_pos 1 (omega arith); whole = refl })
+]
+  where
+    there : begins_with 58 bytes ≡ true → sizes_at bytes ≡ (number_at (drop 1 bytes) >>= λ size. stored_at size.it size.rest)
+    there t = rw t
+
+    some : begins_with 58 bytes ≡ true → Bound (number_at (drop 1 bytes)) (λ size. stored_at size.it size.rest) r → SizesAt bytes r
+    some t b =
+        let n : NumberAt (drop 1 bytes) b.first = number_found (drop 1 bytes) b.first b.is in
+        let all : bytes ≡ 58 ∷ (n.number ++ b.first.rest) = front_is 58 bytes t ∙ ap (λ l. 58 ∷ l) n.whole in
+        subst (λ l. SizesAt l r) (sym all) (stored_found b.first.it n.number b.first.rest r n.is_number n.fits b.then_is)
+
+pub record ItemAt (bytes : List ℕ) (r : Read Dim) : Type 0 where
+  pub text : List ℕ
+  pub is_item : IsItem text r.it
+  pub in_range : IsInRange r.it
+  pub whole : bytes ≡ text ++ r.rest
+
+pub item_found : (bytes : List ℕ) (r : Read Dim) → item_at bytes ≡ Ok r → ItemAt bytes r
+unfolding item_at
+item_found bytes r e =
+    let a = bind_ok (name_at bytes) _ r e in
+    let b = bind_ok (number_at a.first.rest) _ r a.then_is in
+    let d = bind_ok (sizes_at b.first.rest) _ r b.then_is in
+    let name : NameAt bytes a.first = name_found bytes a.first a.is in
+    let start : NumberAt a.first.rest b.first = number_found a.first.rest b.first b.is in
+    let sizes : SizesAt b.first.rest d.first = sizes_found b.first.rest d.first d.is in
+    subst (ItemAt bytes) (same_ok _ r _ refl d.then_is) (record {
+      text = name.name ++ (start.number ++ sizes.text);
+      is_item = record {
+        name = name.name;
+        start = start.number;
+        sizes = sizes.text;
+        whole = refl;
+        is_name = name.is_name;
+        is_start = start.is_number;
+        are_sizes = sizes.are_sizes;
+        padded = name.padded;
+        coord = refl;
+      };
+      in_range = record { start = start.fits; size = sizes.size_fits; stored = sizes.stored_fits };
+      whole = name.whole ∙ (ap (λ l. name.name ++ l) (start.whole ∙ (ap (λ l. start.number ++ l) sizes.whole ∙ sym (append_assoc start.number sizes.text d.first.rest)))
+          ∙ sym (append_assoc name.name (start.number ++ sizes.text) d.first.rest));
+    })
