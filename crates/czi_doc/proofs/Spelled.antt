@@ -283,3 +283,61 @@ item_found bytes r e =
       whole = name.whole ∙ (ap (λ l. name.name ++ l) (start.whole ∙ (ap (λ l. start.number ++ l) sizes.whole ∙ sym (append_assoc start.number sizes.text d.first.rest)))
           ∙ sym (append_assoc name.name (start.number ++ sizes.text) d.first.rest));
     })
+
+record ItemsAt (n : ℕ) (bytes : List ℕ) (ds : List Dim) : Type 0 where
+  items : AreItems bytes ds
+  few : length ds ≤ n
+  fits : AllByRecursion IsInRange ds
+
+front_item : (n : ℕ) (bytes rest : List ℕ) (d : Dim) (text : List ℕ) (more : List Dim) → bytes ≡ text ++ 44 ∷ rest → IsItem text d → IsInRange d → ItemsAt n rest more → ItemsAt (suc n) bytes (d ∷ more)
+front_item n bytes rest d text [] whole is_item range r = absurd r.items
+front_item n bytes rest d text (e ∷ more) whole is_item range r = record { items = (text, rest, whole, is_item, r.items); few = omega (arith, r.few); fits = (range, r.fits) }
+
+items_step : (n : ℕ) (bytes : List ℕ) → items_at (suc n) bytes ≡ (item_at bytes >>= λ item. behind (items_at n) item.it item.rest)
+unfolding items_at
+items_step n bytes = refl
+
+no_items : (bytes : List ℕ) → items_at 0 bytes ≡ Err (suc (length bytes))
+unfolding items_at
+no_items bytes = refl
+
+no_bytes : (bytes : List ℕ) → (length bytes == 0) ≡ true → bytes ≡ []
+no_bytes [] e = refl
+no_bytes (b ∷ bytes) e = absurd (let none : length (b ∷ bytes) ≡ 0 = eqb-true _ _ e in omega arith)
+
+one_more : (n : ℕ) (bytes : List ℕ) (ds : List Dim) → ((rest : List ℕ) (more : List Dim) → items_at n rest ≡ Ok more → ItemsAt n rest more)
+    → Bound (item_at bytes) (λ item. behind (items_at n) item.it item.rest) ds → ItemsAt (suc n) bytes ds
+one_more n bytes ds read b = let i : ItemAt bytes b.first = item_found bytes b.first b.is in elim (cases_Bool (length b.first.rest == 0)) [
+  | inl t ↦ subst (ItemsAt (suc n) bytes) (same_ok _ ds (behind (items_at n) b.first.it b.first.rest) (rw t) b.then_is) (last i (no_bytes b.first.rest t))
+  | inr t ↦ elim (cases_Bool (begins_with 44 b.first.rest)) [
+    | inl u ↦ comma i u (bind_ok (items_at n (drop 1 b.first.rest)) _ ds (sym (goes t u) ∙ b.then_is))
+    | inr u ↦ no_err (length b.first.rest) ds (behind (items_at n) b.first.it b.first.rest) (ends t u) b.then_is
+  ]
+]
+  where
+    last : ItemAt bytes b.first → b.first.rest ≡ [] → ItemsAt (suc n) bytes (b.first.it ∷ [])
+    last i none = record {
+      items = subst (λ l. IsItem l b.first.it) (sym (i.whole ∙ (ap (λ l. i.text ++ l) none ∙ append-nil i.text))) i.is_item;
+      few = omega arith;
+      fits = (i.in_range, tt);
+    }
+
+    goes : (length b.first.rest == 0) ≡ false → begins_with 44 b.first.rest ≡ true
+        → behind (items_at n) b.first.it b.first.rest ≡ (items_at n (drop 1 b.first.rest) >>= λ more. Ok (b.first.it ∷ more))
+    goes t u = rw t (rw (rw t at u))
+
+    ends : (length b.first.rest == 0) ≡ false → begins_with 44 b.first.rest ≡ false → behind (items_at n) b.first.it b.first.rest ≡ Err (length b.first.rest)
+    ends t u = rw t (rw (rw t at u))
+
+    comma : ItemAt bytes b.first → begins_with 44 b.first.rest ≡ true → Bound (items_at n (drop 1 b.first.rest)) (λ more. Ok (b.first.it ∷ more)) ds → ItemsAt (suc n) bytes ds
+    comma i u m = subst (ItemsAt (suc n) bytes) (same_ok _ ds _ refl m.then_is)
+        (front_item n bytes (drop 1 b.first.rest) b.first.it i.text m.first (i.whole ∙ ap (λ l. i.text ++ l) (front_is 44 b.first.rest u)) i.is_item i.in_range
+        (read (drop 1 b.first.rest) m.first m.is))
+
+items_found : (n : ℕ) (bytes : List ℕ) (ds : List Dim) → items_at n bytes ≡ Ok ds → ItemsAt n bytes ds
+items_found zero bytes ds e = no_err (suc (length bytes)) ds (items_at 0 bytes) (no_items bytes) e
+items_found (suc n) bytes ds e = one_more n bytes ds (items_found n) (bind_ok (item_at bytes) _ ds (sym (items_step n bytes) ∙ e))
+
+-- what is read is a dimension text of it
+pub found : (bytes : List ℕ) (ds : List Dim) → items_at 40 bytes ≡ Ok ds → IsDimText bytes ds
+found bytes ds e = let r : ItemsAt 40 bytes ds = items_found 40 bytes ds e in record { items = r.items; few = r.few; fits = r.fits }
