@@ -1,6 +1,5 @@
 -- Reading one item after another.
-use Rattle.std.proofs.Common.{◌≡◌, ℕ, zero, suc, ◌+◌, ◌-◌, ◌<◌, ◌≤◌, List, [], ◌∷◌, ◌++◌, drop, length, Result, Ok, Err, Bool, true, false, not, ◌&&◌, ◌==◌, refl, ap, sym, ◌∙◌, arith, append_assoc}
-use Rattle.std.proofs.lemmas.Bool.Decides.{nat_tests}
+use Rattle.std.proofs.Common.{◌≡◌, ℕ, suc, ◌-◌, ◌<◌, List, [], ◌∷◌, ◌++◌, drop, length, Result, Ok, Err, true, false, ◌==◌, refl, ap, sym, ◌∙◌, arith, append_assoc}
 use Rattle.czi_format.specs.FirstFault.{◌>>=◌}
 use Rattle.czi_format.specs.Entry.{Dim}
 use Rattle.czi_doc.specs.Reading.{Read, item_at, items_at, behind, begins_with, with_front}

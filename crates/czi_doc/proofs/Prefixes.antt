@@ -1,5 +1,5 @@
 -- How long the front of a list is, step by step.
-use Rattle.std.proofs.Common.{◌≡◌, ℕ, suc, ◌+◌, ◌*◌, ◌-◌, ◌<◌, ◌≤◌, List, [], ◌∷◌, take, drop, length, get_or, add-one, Bool, true, false, refl, ◌==◌, ap, sym, ◌∙◌, arith, subst, inl, inr, lit<}
+use Rattle.std.proofs.Common.{◌≡◌, ℕ, suc, ◌+◌, ◌*◌, ◌-◌, ◌<◌, ◌≤◌, List, [], ◌∷◌, take, drop, length, get_or, add-one, Bool, true, false, ◌==◌, ap, sym, ◌∙◌, arith, subst, inl, inr, lit<}
 use Rattle.std.proofs.Math.Seq.{drop-cons}
 use Rattle.std.proofs.lemmas.List.{drop_all}
 use Rattle.std.proofs.lemmas.Bool.{cases_Bool, eqb-true}

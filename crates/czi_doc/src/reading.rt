@@ -1,7 +1,8 @@
 //! Dimension text, read.
 
-ghost use Rattle.std.specs.Prelude.{◌≡◌, ◌+◌, ◌-◌, ◌^◌, ◌≤◌, ◌<◌, ◌++◌, length, replicate, MatchOption, MatchResult};
+ghost use Rattle.std.specs.Prelude.{◌≡◌, ◌+◌, ◌-◌, ◌^◌, ◌≤◌, ◌<◌, ◌++◌, length, replicate, MatchOption, MatchResult, IfOk};
 ghost use Rattle.std.specs.Str.Parse.{AllDigits, digits_value};
+ghost use Rattle.czi_format.specs.DimText.{IsDimText};
 ghost use Rattle.czi_doc.specs.View.{dim_of, dims_of};
 ghost use Rattle.czi_doc.specs.Reading.{Read, Sizes, name_len, name_at, number_len, magnitude_at, negative_at, positive_at, begins_with, number_at, stored_at, sizes_at, item_at, items_at};
 ghost use Rattle.czi_doc.specs.Seen.{Tells, seen};
@@ -178,7 +179,8 @@ fn read_item(text: &[u8]) -> Result<(Dim, &[u8]), usize>
 /// `:` and a stored size (the size where it is missing). All three are signed 32-bit numbers in decimal,
 /// without a leading zero, and `-0` is none. The coordinate bytes are zero.
 pub fn read_dims(alloc: Global, text: &[u8]) -> Result<Dims, TextFault>
-    ensures { Tells text.now dims_of result (items_at 40 text.now) }
+    ensures read { Tells text.now dims_of result (items_at 40 text.now) }
+    ensures found { IfOk result (λ d. IsDimText text.now (dims_of d)) }
 {
     let mut dims = Vec::new(alloc);
     let mut rest = text;

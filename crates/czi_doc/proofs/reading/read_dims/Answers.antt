@@ -1,24 +1,31 @@
-use Rattle.std.proofs.Common.{◌≡◌, suc, ◌+◌, ◌-◌, ◌<◌, ◌≤◌, ◌++◌, ◌∷◌, [], ℕ, Bool, true, false, Ok, map, drop, length, ap, sym, ◌∙◌, arith, ◌==◌}
+use Rattle.std.proofs.Common.{◌≡◌, suc, ◌+◌, ◌-◌, ◌++◌, ◌∷◌, [], Ok, map, length, ap, sym, ◌∙◌, arith}
 use Rattle.std.proofs.lemmas.List.{map-append}
 use Rattle.czi_doc.specs.View.{dim_of}
-use Rattle.czi_doc.specs.Reading.{Read, items_at, with_front, begins_with}
+use Rattle.czi_doc.specs.Reading.{items_at, with_front}
+use Rattle.czi_doc.proofs.Spelled.{found}
 use Rattle.czi_doc.proofs.InTurn.{fault, done, bad, next, over}
 use Rattle.czi_doc.proofs.reading.read_dims.Goals as goal
 
-pub returns-in-Err : goal.returns-in-Err
-returns-in-Err c = (
+pub returns-in-Err-clause-read : goal.returns-in-Err-clause-read
+returns-in-Err-clause-read c = (
   c.in-Err.left,
   fault (map dim_of c.loop-i.dims.items) (40 - c.loop-i.i) c.in-Err.left c.loop-i.rest.now _ (omega (arith, c.loop-i-test.true)) c.in-Err.ensures.read c.loop-i.invariant.whole,
   omega (arith, c.in-Err.ensures.left, c.loop-i.invariant.inside),
 )
 
-pub returns-in-Ok-new : goal.returns-in-Ok-new
-returns-in-Ok-new c =
+pub returns-in-Ok-new-clause-read : goal.returns-in-Ok-new-clause-read
+returns-in-Ok-new-clause-read c =
     done (map dim_of c.loop-i.dims.items) (40 - c.loop-i.i) c.loop-i.rest.now (record { it = dim_of c.in-Ok.item.0; rest = c.in-Ok.item.1.now }) _ (omega (arith, c.loop-i-test.true)) c.in-Ok.ensures.read (sym c.is_empty.ensures ∙ c.if-is_empty.true) c.loop-i.invariant.whole
     ∙ ap Ok (sym (map-append dim_of c.loop-i.dims.items (c.in-Ok.item.0 ∷ [])) ∙ ap (map dim_of) (sym c.in-Ok-push.ensures.items ∙ sym c.in-Ok-new.ensures.ok))
 
-pub returns-then-not-begins_with : goal.returns-then-not-begins_with
-returns-then-not-begins_with c = (
+pub returns-in-Ok-new-clause-found : goal.returns-in-Ok-new-clause-found
+returns-in-Ok-new-clause-found c = found _ _ (
+    done (map dim_of c.loop-i.dims.items) (40 - c.loop-i.i) c.loop-i.rest.now (record { it = dim_of c.in-Ok.item.0; rest = c.in-Ok.item.1.now }) _ (omega (arith, c.loop-i-test.true)) c.in-Ok.ensures.read (sym c.is_empty.ensures ∙ c.if-is_empty.true) c.loop-i.invariant.whole
+    ∙ ap Ok (sym (map-append dim_of c.loop-i.dims.items (c.in-Ok.item.0 ∷ [])) ∙ ap (map dim_of) (sym c.in-Ok-push.ensures.items ∙ sym c.in-Ok-new.ensures.ok))
+    )
+
+pub returns-then-not-begins_with-clause-read : goal.returns-then-not-begins_with-clause-read
+returns-then-not-begins_with-clause-read c = (
   length c.in-Ok.item.1.now,
   bad (map dim_of c.loop-i.dims.items) (40 - c.loop-i.i) c.loop-i.rest.now (record { it = dim_of c.in-Ok.item.0; rest = c.in-Ok.item.1.now }) _ (omega (arith, c.loop-i-test.true)) c.in-Ok.ensures.read (sym c.is_empty.ensures ∙ c.if-is_empty.false) (sym c.begins_with.ensures ∙ c.if-not-begins_with.true) c.loop-i.invariant.whole,
   omega (arith, c.in-Ok.ensures.left, c.loop-i.invariant.inside),
@@ -38,8 +45,8 @@ loop-i-preserved c =
       comma = λ h. omega (arith, c.split_at.ensures.back_len, c.in-Ok.ensures.left, c.loop-i.invariant.inside);
     }
 
-pub returns : goal.returns
-returns c = (
+pub returns-clause-read : goal.returns-clause-read
+returns-clause-read c = (
   suc (length c.loop-i.rest.now),
   over (map dim_of c.loop-i.dims.items) (40 - c.loop-i.i) c.loop-i.rest.now _ (omega (arith, c.loop-i-test.false)) c.loop-i.invariant.whole,
   omega (arith, c.loop-i-test.false, c.loop-i.invariant.comma (omega (arith, c.loop-i-test.false))),
