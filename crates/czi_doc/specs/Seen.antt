@@ -1,5 +1,7 @@
 -- What a reader answered, as the reading has it.
-use Rattle.std.specs.Prelude.{◌≡◌, ℕ, ◌+◌, List, length, Result, Ok, Err}
+use Rattle.std.specs.Prelude.{◌≡◌, ℕ, ◌+◌, List, length, Result, Ok, Err, MatchResult}
+use Rattle.czi_format.specs.Entry.{Dim}
+use Rattle.czi_doc.specs.DimText.{IsDimText}
 use Rattle.czi_doc.specs.declared.fault.TextFault.{TextFault}
 use Rattle.czi_doc.specs.declared.fault.TextFault.TheVariants.{Bad, Memory}
 
@@ -15,3 +17,7 @@ TellsFault text (Bad place) read = (left : ℕ) × (read ≡ Err left) × (place
 abbrev pub Tells : {X Y : Type 0} → List ℕ → (X → Y) → Result X TextFault → Result Y ℕ → Type 0
 Tells text view (Ok x) read = read ≡ Ok (view x)
 Tells text view (Err fault) read = TellsFault text fault read
+
+-- The code answers each dimension text with its dimensions, unless memory runs out.
+abbrev pub ReadsEach : {X : Type 0} → List ℕ → (X → List Dim) → Result X TextFault → Type 0
+ReadsEach text view result = (ds : List Dim) → IsDimText text ds → MatchResult result (λ x. view x ≡ ds) (λ fault. fault ≡ Memory)

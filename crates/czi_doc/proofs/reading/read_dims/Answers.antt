@@ -3,6 +3,7 @@ use Rattle.std.proofs.lemmas.List.{map-append}
 use Rattle.czi_doc.specs.View.{dim_of}
 use Rattle.czi_doc.specs.Reading.{items_at, with_front}
 use Rattle.czi_doc.proofs.Spelled.{found}
+use Rattle.czi_doc.proofs.ReadAgain.{only_ok, only_fault}
 use Rattle.czi_doc.proofs.InTurn.{fault, done, bad, next, over}
 use Rattle.czi_doc.proofs.reading.read_dims.Goals as goal
 
@@ -51,3 +52,15 @@ returns-clause-read c = (
   over (map dim_of c.loop-i.dims.items) (40 - c.loop-i.i) c.loop-i.rest.now _ (omega (arith, c.loop-i-test.false)) c.loop-i.invariant.whole,
   omega (arith, c.loop-i-test.false, c.loop-i.invariant.comma (omega (arith, c.loop-i-test.false))),
 )
+
+pub returns-in-Err-clause-only : goal.returns-in-Err-clause-only
+returns-in-Err-clause-only c = λ ds is. only_fault _ _ ds (returns-in-Err-clause-read c).1 is
+
+pub returns-in-Ok-new-clause-only : goal.returns-in-Ok-new-clause-only
+returns-in-Ok-new-clause-only c = λ ds is. only_ok _ _ ds (returns-in-Ok-new-clause-read c) is
+
+pub returns-then-not-begins_with-clause-only : goal.returns-then-not-begins_with-clause-only
+returns-then-not-begins_with-clause-only c = λ ds is. only_fault _ _ ds (returns-then-not-begins_with-clause-read c).1 is
+
+pub returns-clause-only : goal.returns-clause-only
+returns-clause-only c = λ ds is. only_fault _ _ ds (returns-clause-read c).1 is
