@@ -5,3 +5,4 @@ pub mod Prefixes
 pub mod InTurn
 pub mod Spelled
 pub mod ReadAgain
+pub mod InRange

@@ -24,7 +24,7 @@ pub record LettersAt (n : ℕ) (bytes : List ℕ) (k : ℕ) : Type 0 where
   pub inside : k ≤ length bytes
   pub letters : AllByRecursion (λ b. IsTrue (is_letter b)) (take k bytes)
 
-letters_at : (n : ℕ) (bytes : List ℕ) → LettersAt n bytes (prefix_len is_letter (take n bytes))
+pub letters_at : (n : ℕ) (bytes : List ℕ) → LettersAt n bytes (prefix_len is_letter (take n bytes))
 letters_at zero bytes = record { few = omega arith; inside = omega arith; letters = tt }
 letters_at (suc n) [] = record { few = omega arith; inside = omega arith; letters = tt }
 letters_at (suc n) (b ∷ bytes) = elim (cases_Bool (is_letter b)) [
@@ -130,7 +130,7 @@ neg_number : (n : ℕ) (digits : List ℕ) → (n == 0) ≡ false → IsNatural 
 neg_number zero digits some natural = cc
 neg_number (suc n) digits some natural = (digits, refl, subst (IsNatural digits) (omega arith) natural)
 
-front_is : (b : ℕ) (bytes : List ℕ) → begins_with b bytes ≡ true → bytes ≡ b ∷ drop 1 bytes
+pub front_is : (b : ℕ) (bytes : List ℕ) → begins_with b bytes ≡ true → bytes ≡ b ∷ drop 1 bytes
 front_is b [] e = cc
 front_is b (c ∷ bytes) e = ap (λ z. z ∷ bytes) (eqb-true c b (second _ _ e))
   where
@@ -293,11 +293,11 @@ front_item : (n : ℕ) (bytes rest : List ℕ) (d : Dim) (text : List ℕ) (more
 front_item n bytes rest d text [] whole is_item range r = absurd r.items
 front_item n bytes rest d text (e ∷ more) whole is_item range r = record { items = (text, rest, whole, is_item, r.items); few = omega (arith, r.few); fits = (range, r.fits) }
 
-items_step : (n : ℕ) (bytes : List ℕ) → items_at (suc n) bytes ≡ (item_at bytes >>= λ item. behind (items_at n) item.it item.rest)
+pub items_step : (n : ℕ) (bytes : List ℕ) → items_at (suc n) bytes ≡ (item_at bytes >>= λ item. behind (items_at n) item.it item.rest)
 unfolding items_at
 items_step n bytes = refl
 
-no_items : (bytes : List ℕ) → items_at 0 bytes ≡ Err (suc (length bytes))
+pub no_items : (bytes : List ℕ) → items_at 0 bytes ≡ Err (suc (length bytes))
 unfolding items_at
 no_items bytes = refl
 
