@@ -1,7 +1,7 @@
 -- What the faults and the answers of `Dims::new` say.
-use Rattle.std.proofs.Common.{rules, ◌≡◌, ℕ, ◌≤◌, ◌<◌, List, length, Option, Some, None, Result, Ok, Err, refl, sym, ap, arith, subst, ◌⊎◌, inl, inr}
+use Rattle.std.proofs.Common.{rules, ◌≡◌, ℕ, ◌≤◌, ◌<◌, List, None, Result, Ok, Err, refl, arith, ◌⊎◌, inr}
 use Rattle.std.specs.Prelude.{◌↔◌, IsOk, IsSome}
-use Rattle.czi_format.specs.Entry.{entry, entry_fields}
+use Rattle.czi_format.specs.Entry.{entry}
 use Rattle.czi_format.specs.EntryRules as refusal
 use Rattle.czi_format.specs.EntryRules.{entry_rules}
 use Rattle.czi_format.proofs.EntryRules.{HoldsEntry, rules_hold, refused_none}

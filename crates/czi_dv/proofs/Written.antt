@@ -1,5 +1,5 @@
 -- Records and heads that are written field by field.
-use Rattle.std.proofs.Common.{◌≡◌, ℕ, ◌+◌, ◌*◌, ◌≤◌, ◌<◌, ℤ, pos, List, [], ◌∷◌, ◌++◌, map, take, drop, get_or, length, replicate, codes, Some, refl, ap, sym, ◌∙◌, arith, subst, append_assoc, append-nil, length-append}
+use Rattle.std.proofs.Common.{◌≡◌, ℕ, ◌+◌, ◌*◌, ◌<◌, ℤ, List, [], ◌∷◌, ◌++◌, map, take, drop, get_or, length, replicate, codes, Some, refl, ap, sym, ◌∙◌, arith, subst, append_assoc, append-nil, length-append}
 use Rattle.std.proofs.lemmas.List.{map_more, take_at, length-take-le, length-map, drop-drop, drop_all, take_all}
 use Rattle.std.specs.List.{AllByRecursion, flat_map}
 use Rattle.czi_format.specs.Bytes.{put_at, i32_bytes, i64_bytes, u32_bytes}

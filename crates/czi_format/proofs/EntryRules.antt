@@ -1,11 +1,11 @@
 -- The rules refuse exactly where no entry stands.
-use Rattle.std.proofs.Common.{◌≡◌, ℕ, zero, suc, ◌+◌, ◌-◌, ◌*◌, ◌≤◌, ◌&&◌, ◌==◌, ℤ, pos, negsuc, List, ◌∷◌, take, drop, length, codes, Bool, true, false, nat_le, Option, Some, None, Result, Ok, Err, refl, ap, sym, ◌∙◌, arith, bytes_eq, zero-add}
+use Rattle.std.proofs.Common.{◌≡◌, ℕ, zero, suc, ◌+◌, ◌-◌, ◌*◌, ◌≤◌, ◌&&◌, ◌==◌, ℤ, pos, negsuc, List, ◌∷◌, take, drop, length, codes, true, nat_le, Option, Some, None, Ok, Err, refl, ap, sym, ◌∙◌, arith, bytes_eq, zero-add}
 use Rattle.std.proofs.lemmas.Bool.{eqb-true, leb-true, le-leb}
 use Rattle.std.proofs.lemmas.List.{drop-take, get_or-take, length-take-le}
 use Rattle.std.specs.Option.{ok_or}
 use Rattle.czi_format.specs.Bytes.{bytes_at, byte_at, i32_at, i64_at}
-use Rattle.czi_format.specs.Partial.{given, natural, is_zero}
-use Rattle.czi_format.specs.FirstFault.{◌>>=◌, ◌>>◌, unless}
+use Rattle.czi_format.specs.Partial.{natural, is_zero}
+use Rattle.czi_format.specs.FirstFault.{unless}
 use Rattle.czi_format.specs.Entry.{Entry, EntryBytes, dim, dims, entry, entry_fields}
 use Rattle.czi_format.specs.EntryRules as rules
 use Rattle.czi_format.specs.EntryRules.{EntryRefusal, record_count, entry_rules}

@@ -1,5 +1,5 @@
 -- What an image shows has the limits of a document: what was read can be written.
-use Rattle.std.proofs.Common.{◌≡◌, ℕ, zero, suc, ◌+◌, ◌*◌, ◌≤◌, ◌<◌, ◌^◌, pos, List, [], ◌∷◌, map, take, drop, length, get_or, nat_le, Option, Some, None, Ok, refl, ap, sym, arith, subst, codes, bytes_eq, ◌&&◌, ◌==◌}
+use Rattle.std.proofs.Common.{◌≡◌, ℕ, zero, suc, ◌+◌, ◌*◌, ◌≤◌, ◌<◌, ◌^◌, List, [], ◌∷◌, map, take, drop, length, get_or, nat_le, Option, Some, None, Ok, refl, ap, sym, arith, subst, codes, bytes_eq, ◌&&◌, ◌==◌}
 use Rattle.std.proofs.lemmas.Bool.{leb-true}
 use Rattle.std.proofs.lemmas.List.{get_or-drop, length-take, length-drop}
 use Rattle.std.proofs.Math.Facts.{sfits_to_z}
@@ -10,13 +10,13 @@ use Rattle.czi_format.specs.Bytes.{IsBytes, bytes_at, i32_at, i64_at}
 use Rattle.std.specs.Option.{ok_or}
 use Rattle.czi_format.specs.Partial.{natural}
 use Rattle.czi_format.specs.FirstFault.{one_after_another}
-use Rattle.czi_format.specs.Segment.{data_of, sound_segment, file_id}
+use Rattle.czi_format.specs.Segment.{data_of}
 use Rattle.czi_format.specs.Document.{Document, Subblock, Attachment, IsDocument}
 use Rattle.czi_format.specs.Live.{FileHeader, file_header, Directory, Tile, AttItem, subblock_of, attachment_of}
 use Rattle.czi_format.specs.Shows.{Shows, entries, a1_entries, count_of}
-use Rattle.czi_format.proofs.Readings.{bind_some, given_some, both_true, segment_stands, is_sound}
+use Rattle.czi_format.proofs.Readings.{bind_some, given_some, both_true}
 use Rattle.czi_format.proofs.Rules.{on_ok, ok_or_ok}
-use Rattle.czi_format.proofs.Local.{header_is}
+use Rattle.czi_format.proofs.Local.{header_fronts}
 use Rattle.czi_format.specs.Entry.{Entry, A1, dim, dims, entry, entry_len, a1_len, IsDim, IsEntryInfo, IsEntry, IsAttInfo, a1}
 
 -- past the end of a list stands 0
@@ -98,7 +98,7 @@ entry_is bytes e is found =
       position = i64_fits bytes 6 is;
     })
 
-a1_is : (bytes : List ℕ) (a : A1) → a1 bytes ≡ Some a → IsAttInfo a.info
+pub a1_is : (bytes : List ℕ) (a : A1) → a1 bytes ≡ Some a → IsAttInfo a.info
 unfolding a1
 a1_is bytes a found =
     let g = given_some (bytes_eq (bytes_at bytes 0 2) (codes "A1") && nat_le 128 (length bytes)) _ a found in
@@ -150,22 +150,17 @@ length-mapped : {X Y : Type 0} (f : X → Y) (xs : List X) → length (map f xs)
 length-mapped f [] = refl
 length-mapped f (x ∷ xs) = ap suc (length-mapped f xs)
 
-identity_is : (image : List ℕ) (h : FileHeader) → file_header image ≡ Some h → 112 ≤ length image → length h.identity ≡ 52
-unfolding file_header
-identity_is image h found long =
-    let s = bind_some (sound_segment image file_id (pos 0)) _ h found in
-    let g = given_some _ _ h s.2 in
-    subst (λ (z : FileHeader). length z.identity ≡ 52) g.1 (length-bytes_at image 32 52 (omega arith))
+identity_is : (image : List ℕ) (h : FileHeader) → file_header image ≡ Some h → length h.identity ≡ 52
+identity_is image h found =
+    let f = (header_fronts image h found).0 in
+    subst (λ (z : FileHeader). length z.identity ≡ 52) f.fields (length-bytes_at image 32 52 (omega (arith, f.long)))
 
 pub shows_document : (image : List ℕ) (d : Document) → IsBytes image → Shows image d → IsDocument d
 shows_document image d is (live, reaches, d_is) =
-    let h = header_is image live.header reaches.header in
-    let sound = is_sound image file_id (pos 0) live.header.segment h.0 in
-    let stands = segment_stands image live.header.segment.at live.header.segment sound.here in
     let es = entries_are image live.directory (map (λ (t : Tile). t.entry) live.tiles) is reaches.entries in
     let atts = a1_entries_are image live.attdir (map (λ (t : AttItem). t.entry) live.attachments) is reaches.a1_entries in
     subst IsDocument (sym d_is) (record {
-      identity = identity_is image live.header reaches.header (omega (arith, stands.inside, h.1));
+      identity = identity_is image live.header reaches.header;
       subblocks = omega (arith, length-mapped (subblock_of image) live.tiles, length-mapped (λ (t : Tile). t.entry) live.tiles, es.1, reaches.few);
       infos = all_infos image live.tiles es.0;
       attachments = omega (arith, length-mapped (attachment_of image) live.attachments, length-mapped (λ (t : AttItem). t.entry) live.attachments, atts.1, reaches.few_attachments);

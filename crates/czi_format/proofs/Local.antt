@@ -1,7 +1,7 @@
 -- What an image shows depends on its length, its file header and its live segments alone.
-use Rattle.std.proofs.Common.{◌≡◌, ℕ, zero, suc, ◌+◌, ◌-◌, ◌≤◌, ◌<◌, min, ℤ, pos, negsuc, List, [], ◌∷◌, ◌++◌, map, take, drop, length, nat_le, Option, Some, None, option_to_list, option_map, refl, ap, sym, ◌∙◌, arith, subst}
+use Rattle.std.proofs.Common.{◌≡◌, ℕ, zero, suc, ◌+◌, ◌-◌, ◌≤◌, ◌<◌, min, ℤ, pos, negsuc, List, [], ◌∷◌, ◌++◌, map, take, drop, length, Bool, true, false, ◌||◌, ◌&&◌, ◌==◌, bytes_eq, nat_le, Option, Some, None, option_to_list, option_map, refl, ap, sym, ◌∙◌, arith, subst}
 use Rattle.std.proofs.lemmas.List.{drop-take, take-take, drop-drop, length-take, length-drop}
-use Rattle.std.proofs.lemmas.Bool.{leb-true}
+use Rattle.std.proofs.lemmas.Bool.{eqb-true, leb-true, le-leb}
 use Rattle.std.specs.List.{AllByRecursion}
 use Rattle.czi_format.specs.Bytes.{bytes_at, i32_at, i64_at}
 use Rattle.czi_format.specs.Partial.{◌>>=◌, none_or}
@@ -11,11 +11,11 @@ use Rattle.czi_format.specs.Document.{Document}
 use Rattle.czi_format.specs.Segment.{Segment, header_at, segment_at, sound_segment, extent, data_of, in_segment, file_id, directory_id, subblock_id, metadata_id, attachment_id, attdir_id}
 use Rattle.czi_format.specs.Entry.{Entry, A1, entry, entry_len, a1, a1_len}
 use Rattle.czi_format.specs.Contents.{sub_head, meta_head, att_size, entry_count}
-use Rattle.czi_format.specs.Live.{Live, FileHeader, file_header, Directory, directory, attachment_directory, Tile, tile, AttItem, att_item, MetaItem, meta_item, document, subblock_of, attachment_of, metadata_of}
+use Rattle.czi_format.specs.Live.{Live, FileHeader, has_header_sizes, header_fields, front_header, file_header, Directory, directory, attachment_directory, Tile, tile, AttItem, att_item, MetaItem, meta_item, document, subblock_of, attachment_of, metadata_of}
 use Rattle.czi_format.specs.Span.{end_of, round32}
 use Rattle.czi_format.specs.Walk.{stands_at, next_from, WalksFrom}
 use Rattle.czi_format.specs.Same.{SameExtent, SameLive, SameStep, SameWalk}
-use Rattle.czi_format.proofs.Readings.{bind_some, given_some, Stands, segment_stands, both_true, stands_segment, IsSound, is_sound, sound_is}
+use Rattle.czi_format.proofs.Readings.{bind_some, given_some, IsHeader, header_is_read, read_header_is, Stands, segment_stands, both_true, stands_segment, IsSound, is_sound, sound_is}
 
 -- a part of a part
 pub part_of_part : (bytes : List ℕ) (at n k m : ℕ) → k + m ≤ n → bytes_at (bytes_at bytes at n) k m ≡ bytes_at bytes (at + k) m
@@ -205,40 +205,98 @@ pub metadata_same : (a b : List ℕ) (o : Option MetaItem) → AllByRecursion (S
 metadata_same a b None all = refl
 metadata_same a b (Some m) all = let same : data_of a m.segment ≡ data_of b m.segment = data_same a b m.segment all.0 in cc
 
--- the file header
-fields_same : (a b : List ℕ) → sound_segment a file_id (pos 0) ≡ sound_segment b file_id (pos 0) → bytes_at a 0 100 ≡ bytes_at b 0 100 → bytes_at a 104 8 ≡ bytes_at b 104 8 → file_header a ≡ file_header b
+-- A file header stands at the front of the bytes, whatever its extent.
+pub record Fronts (bytes : List ℕ) (h : FileHeader) : Type 0 where
+  pub header : header_at bytes 0 ≡ Some h.segment
+  pub long : 112 ≤ length bytes
+  pub id : bytes_eq h.segment.id file_id ≡ true
+  pub sizes : has_header_sizes h.segment ≡ true
+  pub fields : header_fields bytes h.segment ≡ h
+
+pub front_is : (bytes : List ℕ) (h : FileHeader) → front_header bytes ≡ Some h → Fronts bytes h
+front_is bytes h found =
+    let s = bind_some (header_at bytes 0) _ h found in
+    let g = given_some _ _ h s.2 in
+    let own : s.0 ≡ h.segment = ap (λ (z : FileHeader). z.segment) g.1 in
+    let t = both_true (nat_le 112 (length bytes) && bytes_eq s.0.id file_id) (has_header_sizes s.0) g.0 in
+    let u = both_true (nat_le 112 (length bytes)) (bytes_eq s.0.id file_id) t.0 in
+    record {
+      header = s.1 ∙ ap Some own;
+      long = leb-true _ _ u.0;
+      id = ap (λ (z : Segment). bytes_eq z.id file_id) (sym own) ∙ u.1;
+      sizes = ap has_header_sizes (sym own) ∙ t.1;
+      fields = ap (header_fields bytes) (sym own) ∙ g.1;
+    }
+
+pub is_front : (bytes : List ℕ) (h : FileHeader) → Fronts bytes h → front_header bytes ≡ Some h
+is_front bytes h fronts =
+    let long : nat_le 112 (length bytes) ≡ true = le-leb _ _ fronts.long in
+    let sizes : has_header_sizes h.segment ≡ true = fronts.sizes in
+    let found : front_header bytes ≡ Some (header_fields bytes h.segment) = rw (fronts.header, long, fronts.id, sizes) in
+    found ∙ ap Some fronts.fields
+
+pub header_fronts : (a : List ℕ) (h : FileHeader) → file_header a ≡ Some h → Fronts a h × (32 + h.segment.allocated ≤ length a)
 unfolding file_header
-fields_same a b here front back =
-    let identity : bytes_at a 32 52 ≡ bytes_at b 32 52 = same_part a b 0 100 32 52 front (omega arith) in
-    let part : i32_at a 80 ≡ i32_at b 80 = i32_same a b 80 (same_part a b 0 100 80 4 front (omega arith)) in
-    let dir : i64_at a 84 ≡ i64_at b 84 = i64_same a b 84 (same_part a b 0 100 84 8 front (omega arith)) in
-    let meta : i64_at a 92 ≡ i64_at b 92 = i64_same a b 92 (same_part a b 0 100 92 8 front (omega arith)) in
-    let atts : i64_at a 104 ≡ i64_at b 104 = i64_same a b 104 back in
-    simp (here, identity, part, dir, meta, atts)
+header_fronts a h found =
+    let f = bind_some (front_header a) _ h found in
+    let g = given_some _ _ h f.2 in
+    (front_is a h (f.1 ∙ ap Some g.1), subst (λ (z : FileHeader). 32 + z.segment.allocated ≤ length a) g.1 (leb-true _ _ g.0))
+
+pub fronts_header : (a : List ℕ) (h : FileHeader) → Fronts a h → 32 + h.segment.allocated ≤ length a → file_header a ≡ Some h
+unfolding file_header
+fronts_header a h fronts inside =
+    let front : front_header a ≡ Some h = is_front a h fronts in
+    let fits : nat_le (32 + h.segment.allocated) (length a) ≡ true = le-leb _ _ inside in
+    rw (front, fits)
+
+-- the sizes of a file header are sound
+sizes_sound : (s : Segment) → has_header_sizes s ≡ true → (80 ≤ s.allocated) × (s.used ≤ s.allocated)
+sizes_sound s sizes =
+    let b = both_true (nat_le 80 s.allocated) _ sizes in
+    let large : 80 ≤ s.allocated = leb-true 80 s.allocated b.0 in
+    elim_used (s.used == 0) refl b.1 large
+  where
+    elim_used : (empty : Bool) → (s.used == 0) ≡ empty → (empty || (nat_le 80 s.used && nat_le s.used s.allocated)) ≡ true → 80 ≤ s.allocated → (80 ≤ s.allocated) × (s.used ≤ s.allocated)
+    elim_used true is e large = (large, omega (arith, eqb-true s.used 0 is))
+    elim_used false is e large = (large, leb-true _ _ (both_true (nat_le 80 s.used) (nat_le s.used s.allocated) e).1)
 
 -- it begins at 0, and has at least 80 bytes of data
 pub header_is : (a : List ℕ) (h : FileHeader) → file_header a ≡ Some h → (sound_segment a file_id (pos 0) ≡ Some h.segment) × (80 ≤ h.segment.allocated)
-unfolding file_header
 header_is a h found =
-    let s = bind_some (sound_segment a file_id (pos 0)) _ h found in
-    let g = given_some _ _ h s.2 in
-    let own : s.0 ≡ h.segment = ap (λ (z : FileHeader). z.segment) g.1 in
-    let b = both_true (nat_le 80 s.0.allocated) _ g.0 in
-    (s.1 ∙ ap Some own, subst (λ (z : Segment). 80 ≤ z.allocated) own (leb-true _ _ b.0))
+    let f = header_fronts a h found in
+    let s : Segment = h.segment in
+    let sizes = sizes_sound s f.0.sizes in
+    let is : IsHeader a 0 s = header_is_read a 0 s f.0.header in
+    let stands : Stands a 0 s = record { place = is.place; id = is.id; allocated = is.allocated; used = is.used; inside = omega (arith, f.1) } in
+    let here : segment_at a s.at ≡ Some s = stands_segment a s (subst (λ p. Stands a p s) (sym is.place) stands) in
+    let used : nat_le s.used s.allocated ≡ true = le-leb _ _ sizes.1 in
+    (sound_is a file_id (pos 0) s (record { place = ap pos (sym is.place); here = here; test = rw (f.0.id, used) }), sizes.0)
 
 header_same : (a b : List ℕ) (h : FileHeader) → file_header a ≡ Some h → bytes_at a 0 100 ≡ bytes_at b 0 100
     → bytes_at a 104 (32 + h.segment.allocated - 104) ≡ bytes_at b 104 (32 + h.segment.allocated - 104) → file_header b ≡ Some h
 header_same a b h found front behind =
-    let is = header_is a h found in
+    let f = header_fronts a h found in
     let s : Segment = h.segment in
-    let sound : IsSound a file_id (pos 0) s = is_sound a file_id (pos 0) s is.0 in
-    let stands : Stands a s.at s = segment_stands a s.at s sound.here in
-    let at : 0 ≡ s.at = cc (sound.place) in
-    let inside : 104 + (32 + s.allocated - 104) ≤ length b = part_inside a b 104 (32 + s.allocated - 104) (omega (arith, is.1)) (omega (arith, is.1, stands.inside, at)) behind in
-    let first : bytes_at a s.at 32 ≡ bytes_at b s.at 32 = subst (λ p. bytes_at a p 32 ≡ bytes_at b p 32) at (same_front a b 0 100 32 front (omega arith)) in
-    let here : segment_at b s.at ≡ Some s = stands_same_header a b s first (omega (arith, is.1, inside, at)) sound.here in
-    let there : sound_segment b file_id (pos 0) ≡ Some s = sound_is b file_id (pos 0) s (record { place = sound.place; here = here; test = sound.test }) in
-    sym (fields_same a b (is.0 ∙ sym there) front (same_front a b 104 (32 + s.allocated - 104) 8 behind (omega (arith, is.1)))) ∙ found
+    let large : 80 ≤ s.allocated = (sizes_sound s f.0.sizes).0 in
+    let is : IsHeader a 0 s = header_is_read a 0 s f.0.header in
+    let inside : 104 + (32 + s.allocated - 104) ≤ length b = part_inside a b 104 (32 + s.allocated - 104) (omega (arith, large)) (omega (arith, large, f.1)) behind in
+    let allocated : i64_at b 16 ≡ pos s.allocated = sym (i64_same a b 16 (same_part a b 0 100 16 8 front (omega arith))) ∙ is.allocated in
+    let used : i64_at b 24 ≡ pos s.used = sym (i64_same a b 24 (same_part a b 0 100 24 8 front (omega arith))) ∙ is.used in
+    let id : s.id ≡ bytes_at b 0 16 = is.id ∙ same_part a b 0 100 0 16 front (omega arith) in
+    let here : header_at b s.at ≡ Some s = read_header_is b s (subst (λ p. IsHeader b p s) (sym is.place) (record { place = is.place; id = id; allocated = allocated; used = used })) in
+    let identity : bytes_at a 32 52 ≡ bytes_at b 32 52 = same_part a b 0 100 32 52 front (omega arith) in
+    let part : i32_at a 80 ≡ i32_at b 80 = i32_same a b 80 (same_part a b 0 100 80 4 front (omega arith)) in
+    let dir : i64_at a 84 ≡ i64_at b 84 = i64_same a b 84 (same_part a b 0 100 84 8 front (omega arith)) in
+    let meta : i64_at a 92 ≡ i64_at b 92 = i64_same a b 92 (same_part a b 0 100 92 8 front (omega arith)) in
+    let atts : i64_at a 104 ≡ i64_at b 104 = i64_same a b 104 (same_front a b 104 (32 + s.allocated - 104) 8 behind (omega (arith, large))) in
+    let fields : header_fields a s ≡ header_fields b s = λ i. record { segment = s; identity = identity i; part = part i; directory = dir i; metadata = meta i; attachments = atts i } in
+    fronts_header b h (record {
+      header = subst (λ p. header_at b p ≡ Some s) is.place here;
+      long = omega (arith, inside, large);
+      id = f.0.id;
+      sizes = f.0.sizes;
+      fields = sym fields ∙ f.0.fields;
+    }) (omega (arith, inside, large))
 
 -- the parts of the live segments but the header, each with the same extents
 record SameParts (a b : List ℕ) (live : Live) : Type 0 where

@@ -10,10 +10,10 @@ use Rattle.czi_format.specs.Segment.{Segment, extent, in_segment, data_of, sound
 use Rattle.czi_format.specs.Entry.{Entry, A1}
 use Rattle.czi_format.specs.Contents.{sub_head, att_size}
 use Rattle.czi_format.specs.Document.{Document}
-use Rattle.czi_format.specs.Live.{Live, file_header, update_pending, directory, attachment_directory, Tile, tile, AttItem, att_item, meta_item, segments, document}
+use Rattle.czi_format.specs.Live.{Live, FileHeader, file_header, update_pending, directory, attachment_directory, Tile, tile, AttItem, att_item, meta_item, segments, document}
 use Rattle.czi_format.specs.Shows.{Reaches, Shows, count_of, entries, a1_entries, subblock_at, attachment_at}
 use Rattle.czi_format.specs.Refusals as refusals
-use Rattle.czi_format.specs.Refusals.{Refusal, IsRefused, reading, first_meeting}
+use Rattle.czi_format.specs.Refusals.{Refusal, IsRefused, Tiles, Attachments, first_rules, tile_rules, attachment_rules, metadata_rule, reads_but_overlap, reading, first_meeting}
 use Rattle.czi_format.proofs.Readings.{bind_some, given_some}
 use Rattle.czi_format.proofs.Overlap.{none_meet, disjoint_none}
 
@@ -126,29 +126,102 @@ assembled image live dvs a1s header part pending dir few dv tiles attdir few_a1 
 ok_is : {A E : Type 0} (x y : A) → (let r : Result A E = Ok x in r) ≡ Ok y → x ≡ y
 ok_is x y e = cc
 
+-- what the rules of the file header say of what they answer
+pub record HeaderPasses (image : List ℕ) (header : FileHeader) : Type 0 where
+  pub header_is : file_header image ≡ Some header
+  pub part : is_zero header.part ≡ true
+  pub pending : is_zero (update_pending image) ≡ true
+
+pub header_passes : (image : List ℕ) (header : FileHeader) → first_rules image ≡ Ok header → HeaderPasses image header
+unfolding first_rules
+header_passes image header e =
+    on_ok (ok_or (file_header image) refusals.not_czi) _ header e λ h r1 e.
+    on_rule (unless (is_zero h.part) (refusals.multi_part h.part)) _ header e λ r2 e.
+    on_rule (unless (is_zero (update_pending image)) (refusals.pending (update_pending image))) (Ok h) header e λ r3 e.
+    let same : h ≡ header = ok_is {E = Refusal} h header e in
+    record {
+      header_is = ok_or_ok _ _ _ r1 ∙ ap Some same;
+      part = ap (λ (z : FileHeader). is_zero z.part) (sym same) ∙ unless_none _ _ r2;
+      pending = unless_none _ _ r3;
+    }
+
+-- what the rules of the directory say
+pub record TilesPass (image : List ℕ) (position : ℤ) (l : Tiles) : Type 0 where
+  pub dvs : List Entry
+  pub found : none_or position (in_segment image directory_id position directory) ≡ Some l.directory
+  pub few : nat_le (count_of l.directory) (2 ^ 20) ≡ true
+  pub entries_are : entries image l.directory ≡ Ok dvs
+  pub tiles_are : each (subblock_at image) (λ e. refusals.bad_segment e.position) dvs ≡ Ok l.tiles
+
+pub tiles_pass : (image : List ℕ) (position : ℤ) (l : Tiles) → tile_rules image position ≡ Ok l → TilesPass image position l
+unfolding tile_rules
+tiles_pass image position l e =
+    on_ok (ok_or (none_or position (in_segment image directory_id position directory)) (refusals.bad_directory position)) _ l e λ dir r4 e.
+    on_rule (unless (nat_le (count_of dir) (2 ^ 20)) (refusals.too_many position (count_of dir))) _ l e λ r5 e.
+    on_ok (with_fault (λ at. refusals.bad_entry (pos at)) (entries image dir)) _ l e λ dvs r6 e.
+    on_ok (each (subblock_at image) (λ e. refusals.bad_segment e.position) dvs) _ l e λ tiles r7 e.
+    let made : Tiles = record { directory = dir; tiles = tiles } in
+    let same : made ≡ l = ok_is {E = Refusal} made l e in
+    record {
+      dvs = dvs;
+      found = ok_or_ok _ _ _ r4 ∙ ap (λ (z : Tiles). Some z.directory) same;
+      few = ap (λ (z : Tiles). nat_le (count_of z.directory) (2 ^ 20)) (sym same) ∙ unless_none _ _ r5;
+      entries_are = ap (λ (z : Tiles). entries image z.directory) (sym same) ∙ with_fault_ok _ _ _ r6;
+      tiles_are = r7 ∙ ap (λ (z : Tiles). let r : Result (List Tile) Refusal = Ok z.tiles in r) same;
+    }
+
+-- what those of the attachment directory say
+pub record AttachmentsPass (image : List ℕ) (position : ℤ) (l : Attachments) : Type 0 where
+  pub a1s : List A1
+  pub found : none_or position (in_segment image attdir_id position attachment_directory) ≡ Some l.directory
+  pub few : nat_le (count_of l.directory) (2 ^ 12) ≡ true
+  pub entries_are : a1_entries image l.directory ≡ Ok a1s
+  pub items_are : each (attachment_at image) (λ a. refusals.bad_attachment a.position) a1s ≡ Ok l.items
+
+pub attachments_pass : (image : List ℕ) (position : ℤ) (l : Attachments) → attachment_rules image position ≡ Ok l → AttachmentsPass image position l
+unfolding attachment_rules
+attachments_pass image position l e =
+    on_ok (ok_or (none_or position (in_segment image attdir_id position attachment_directory)) (refusals.bad_attachment position)) _ l e λ dir r8 e.
+    on_rule (unless (nat_le (count_of dir) (2 ^ 12)) (refusals.too_many position (count_of dir))) _ l e λ r9 e.
+    on_ok (with_fault (λ at. refusals.bad_attachment (pos at)) (a1_entries image dir)) _ l e λ a1s r10 e.
+    on_ok (each (attachment_at image) (λ a. refusals.bad_attachment a.position) a1s) _ l e λ items r11 e.
+    let made : Attachments = record { directory = dir; items = items } in
+    let same : made ≡ l = ok_is {E = Refusal} made l e in
+    record {
+      a1s = a1s;
+      found = ok_or_ok _ _ _ r8 ∙ ap (λ (z : Attachments). Some z.directory) same;
+      few = ap (λ (z : Attachments). nat_le (count_of z.directory) (2 ^ 12)) (sym same) ∙ unless_none _ _ r9;
+      entries_are = ap (λ (z : Attachments). a1_entries image z.directory) (sym same) ∙ with_fault_ok _ _ _ r10;
+      items_are = r11 ∙ ap (λ (z : Attachments). let r : Result (List AttItem) Refusal = Ok z.items in r) same;
+    }
+
+-- what is reached where the extents don't meet
+reached_apart : (image : List ℕ) (live : Live) → reads_but_overlap image ≡ Ok live → first_meeting (sorted span_le (map extent (segments live))) ≡ None
+    → Reaches image live × (update_pending image ≡ pos 0)
+unfolding reads_but_overlap metadata_rule
+reached_apart image live e apart =
+    on_ok (first_rules image) _ live e λ header h e.
+    on_ok (tile_rules image header.directory) _ live e λ tiled t e.
+    on_ok (attachment_rules image header.attachments) _ live e λ attached a e.
+    on_ok (ok_or (none_or header.metadata (in_segment image metadata_id header.metadata meta_item)) (refusals.bad_segment header.metadata)) _ live e λ meta m e.
+    let found : Live = record { header = header; directory = tiled.directory; tiles = tiled.tiles; attdir = attached.directory; attachments = attached.items; metadata = meta } in
+    let same : found ≡ live = ok_is {E = Refusal} found live e in
+    let hp = header_passes image header h in
+    let tp = tiles_pass image header.directory tiled t in
+    let ap' = attachments_pass image header.attachments attached a in
+    subst (λ l. Reaches image l × (update_pending image ≡ pos 0)) same
+    (assembled image found tp.dvs ap'.a1s hp.header_is hp.part hp.pending tp.found tp.few tp.entries_are tp.tiles_are ap'.found ap'.few ap'.entries_are ap'.items_are (ok_or_ok _ _ _ m)
+    (ap (λ (l : Live). first_meeting (sorted span_le (map extent (segments l)))) same ∙ apart))
+
 pub reading_reaches : (image : List ℕ) (live : Live) → reading image ≡ Ok live → Reaches image live × (update_pending image ≡ pos 0)
 unfolding reading
 reading_reaches image live e =
-    on_ok (ok_or (file_header image) refusals.not_czi) _ live e λ header r1 e.
-    on_rule (unless (is_zero header.part) (refusals.multi_part header.part)) _ live e λ r2 e.
-    on_rule (unless (is_zero (update_pending image)) (refusals.pending (update_pending image))) _ live e λ r3 e.
-    on_ok (ok_or (none_or header.directory (in_segment image directory_id header.directory directory)) (refusals.bad_directory header.directory)) _ live e λ dir r4 e.
-    on_rule (unless (nat_le (count_of dir) (2 ^ 20)) (refusals.too_many header.directory (count_of dir))) _ live e λ r5 e.
-    on_ok (with_fault (λ at. refusals.bad_entry (pos at)) (entries image dir)) _ live e λ dvs r6 e.
-    on_ok (each (subblock_at image) (λ e. refusals.bad_segment e.position) dvs) _ live e λ tiles r7 e.
-    on_ok (ok_or (none_or header.attachments (in_segment image attdir_id header.attachments attachment_directory)) (refusals.bad_attachment header.attachments)) _ live e λ attdir r8 e.
-    on_rule (unless (nat_le (count_of attdir) (2 ^ 12)) (refusals.too_many header.attachments (count_of attdir))) _ live e λ r9 e.
-    on_ok (with_fault (λ at. refusals.bad_attachment (pos at)) (a1_entries image attdir)) _ live e λ a1s r10 e.
-    on_ok (each (attachment_at image) (λ a. refusals.bad_attachment a.position) a1s) _ live e λ atts r11 e.
-    on_ok (ok_or (none_or header.metadata (in_segment image metadata_id header.metadata meta_item)) (refusals.bad_segment header.metadata)) _ live e λ meta r12 e.
-    let found : Live = record { header = header; directory = dir; tiles = tiles; attdir = attdir; attachments = atts; metadata = meta } in
-    on_rule (first_meeting (sorted span_le (map extent (segments found)))) (Ok found) live e λ r13 e.
-    subst (λ l. Reaches image l × (update_pending image ≡ pos 0)) (ok_is {E = Refusal} found live e)
-    (assembled image found dvs a1s (ok_or_ok _ _ _ r1) (unless_none _ _ r2) (unless_none _ _ r3) (ok_or_ok _ _ _ r4) (unless_none _ _ r5) (with_fault_ok _ _ _ r6) r7
-    (ok_or_ok _ _ _ r8) (unless_none _ _ r9) (with_fault_ok _ _ _ r10) r11 (ok_or_ok _ _ _ r12) r13)
+    on_ok (reads_but_overlap image) _ live e λ found r e.
+    on_rule (first_meeting (sorted span_le (map extent (segments found)))) (Ok found) live e λ apart e.
+    subst (λ l. Reaches image l × (update_pending image ≡ pos 0)) (ok_is {E = Refusal} found live e) (reached_apart image found r apart)
 
 pub reaches_reading : (image : List ℕ) (live : Live) → Reaches image live → update_pending image ≡ pos 0 → reading image ≡ Ok live
-unfolding reading
+unfolding reading reads_but_overlap first_rules tile_rules attachment_rules metadata_rule
 reaches_reading image live r settled =
     let few : nat_le (count_of live.directory) (2 ^ 20) ≡ true = le-leb _ _ r.few in
     let few_a1 : nat_le (count_of live.attdir) (2 ^ 12) ≡ true = le-leb _ _ r.few_attachments in

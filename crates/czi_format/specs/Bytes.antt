@@ -1,6 +1,6 @@
 -- Parts of a byte list, and the little-endian numbers in it. A reading is total: past the end stand zeros.
 -- That a field lies in the list is said beside it, as in "the extent lies in the image".
-use Rattle.std.specs.Prelude.{◌≡◌, ℕ, ◌<◌, List, ℤ, take, drop, slice_index, codes, length, ◌++◌, ◌+◌, ◌-◌, replicate}
+use Rattle.std.specs.Prelude.{◌≡◌, ℕ, ◌<◌, List, [], ◌∷◌, ℤ, take, drop, slice_index, codes, length, ◌++◌, ◌+◌, ◌-◌, replicate}
 use Rattle.std.specs.Int.{cast_signed, cast_unsigned, from_le_bytes, to_le_bytes, w16, w32, w64}
 use Prim.Native.String.{String}
 
@@ -64,3 +64,9 @@ i64_bytes z = to_le_bytes w64 (cast_unsigned w64 z)
 -- an ASCII text, and zero bytes up to n bytes
 abbrev pub padded : ℕ → String → List ℕ
 padded n text = codes text ++ replicate (n - length (codes text)) 0
+
+-- the bytes of a GUID as they are stored: its first field, of four bytes, and its second and third, of two, low byte first
+abbrev pub stored_order : List ℕ → List ℕ
+stored_order guid =
+    slice_index guid 3 ∷ slice_index guid 2 ∷ slice_index guid 1 ∷ slice_index guid 0 ∷ slice_index guid 5 ∷ slice_index guid 4 ∷ slice_index guid 7 ∷ slice_index guid 6
+    ∷ slice_index guid 8 ∷ slice_index guid 9 ∷ slice_index guid 10 ∷ slice_index guid 11 ∷ slice_index guid 12 ∷ slice_index guid 13 ∷ slice_index guid 14 ∷ slice_index guid 15 ∷ []

@@ -1,6 +1,6 @@
 -- The entries of the two directories: `DV` for a subblock, `A1` for an attachment. An entry is read from the
 -- front of a byte list.
-use Rattle.std.specs.Prelude.{◌≡◌, ℕ, zero, suc, ◌+◌, ◌*◌, ℤ, pos, List, [], ◌∷◌, drop, length, codes, ◌&&◌, ◌==◌, nat_le, ◌≤◌, ◌++◌, Option, Some, bytes_eq, FitsSigned, flat_map}
+use Rattle.std.specs.Prelude.{◌≡◌, ℕ, zero, suc, ◌+◌, ◌*◌, ℤ, pos, List, [], ◌∷◌, drop, length, codes, ◌&&◌, ◌==◌, nat_le, ◌≤◌, ◌++◌, Option, Some, replicate, bytes_eq, FitsSigned, flat_map}
 use Rattle.std.specs.Int.{w32, w64}
 use Rattle.std.specs.List.{AllByRecursion}
 use Rattle.czi_format.specs.Bytes.{bytes_at, byte_at, i32_at, i64_at, i32_bytes, i64_bytes}
@@ -132,6 +132,15 @@ a1 bytes = given (bytes_eq (bytes_at bytes 0 2) (codes "A1") && nat_le 128 (leng
 
 abbrev pub a1_len : A1 → ℕ
 a1_len a = 128
+
+-- an A1 entry, written: the reserved bytes and FilePart are 0
+abbrev pub a1_bytes : A1 → List ℕ
+a1_bytes a = codes "A1" ++ (replicate 10 0 ++ (i64_bytes a.position ++ (replicate 4 0 ++ (a.info.guid ++ (a.info.kind ++ a.info.name)))))
+
+-- what can be written
+pub record IsA1 (a : A1) : Type 0 where
+  pub info : IsAttInfo a.info
+  pub position : FitsSigned w64 a.position
 
 -- these bytes are an A1 entry of an attachment with its segment at this position
 pub record A1Bytes (info : AttInfo) (position : ℤ) (bytes : List ℕ) : Type 0 where

@@ -1,5 +1,5 @@
 -- Why no DV entry stands at the front of the bytes: the rules in order, the first that fails refuses.
-use Rattle.std.specs.Prelude.{ℕ, ◌+◌, ◌*◌, ℤ, pos, negsuc, List, length, codes, ◌&&◌, nat_le, Option, Some, None, ok_or, Result, Ok, Err, bytes_eq}
+use Rattle.std.specs.Prelude.{ℕ, ◌+◌, ◌*◌, ℤ, pos, negsuc, List, length, codes, ◌&&◌, nat_le, Option, None, ok_or, Result, Ok, bytes_eq}
 use Rattle.czi_format.specs.Bytes.{bytes_at, i32_at}
 use Rattle.czi_format.specs.Partial.{given, is_zero}
 use Rattle.czi_format.specs.FirstFault.{◌>>=◌, ◌>>◌, unless}

@@ -1,8 +1,9 @@
 -- What the pointers of the file header reach: the live segments, and what stands in them.
-use Rattle.std.specs.Prelude.{ℕ, ◌+◌, ◌*◌, ℤ, pos, List, ◌∷◌, ◌++◌, map, ◌&&◌, ◌||◌, ◌==◌, nat_le, Option, option_map, option_to_list}
-use Rattle.czi_format.specs.Bytes.{bytes_at, i32_at, i64_at}
+use Rattle.std.specs.Prelude.{◌≡◌, ℕ, ◌+◌, ◌*◌, ℤ, pos, List, ◌∷◌, ◌++◌, map, length, replicate, Bool, ◌&&◌, ◌||◌, ◌==◌, nat_le, bytes_eq, Option, option_map, option_to_list, FitsSigned}
+use Rattle.std.specs.Int.{w32, w64}
+use Rattle.czi_format.specs.Bytes.{bytes_at, i32_at, i64_at, i32_bytes, i64_bytes}
 use Rattle.czi_format.specs.Partial.{◌>>=◌, given}
-use Rattle.czi_format.specs.Segment.{Segment, sound_segment, data_of, file_id}
+use Rattle.czi_format.specs.Segment.{Segment, header_at, header_bytes, data_of, file_id}
 use Rattle.czi_format.specs.Entry.{Entry, A1}
 use Rattle.czi_format.specs.Contents.{SubHead, sub_head, sub_end, MetaHead, meta_head, meta_end, att_size, entry_count}
 use Rattle.czi_format.specs.Document.{Document, Subblock, Attachment, Metadata}
@@ -19,18 +20,70 @@ pub record FileHeader : Type 0 where
 abbrev pub update_pending : List ℕ → ℤ
 update_pending image = i32_at image 100
 
--- the file header at 0, of at least 80 bytes of data; a UsedSize of 0 reads as AllocatedSize
+-- at least 80 bytes of data, and sound sizes; a UsedSize of 0 reads as AllocatedSize
+abbrev pub has_header_sizes : Segment → Bool
+has_header_sizes s = nat_le 80 s.allocated && ((s.used == 0) || (nat_le 80 s.used && nat_le s.used s.allocated))
+
+-- the fields of a file header, beside its segment
+abbrev pub header_fields : List ℕ → Segment → FileHeader
+header_fields bytes segment = record {
+  segment = segment;
+  identity = bytes_at bytes 32 52;
+  part = i32_at bytes 80;
+  directory = i64_at bytes 84;
+  metadata = i64_at bytes 92;
+  attachments = i64_at bytes 104;
+}
+
+-- the file header at the front of the bytes; whether its extent lies in them isn't looked at
+abbrev pub front_header : List ℕ → Option FileHeader
+front_header bytes = do
+  segment ← header_at bytes 0
+  given (nat_le 112 (length bytes) && bytes_eq segment.id file_id && has_header_sizes segment) (header_fields bytes segment)
+
+-- the file header at 0: its extent lies in the image
 unfoldable pub file_header : List ℕ → Option FileHeader
 file_header image = do
-  segment ← sound_segment image file_id (pos 0)
-  given (nat_le 80 segment.allocated && ((segment.used == 0) || nat_le 80 segment.used)) (record {
-    segment = segment;
-    identity = bytes_at image 32 52;
-    part = i32_at image 80;
-    directory = i64_at image 84;
-    metadata = i64_at image 92;
-    attachments = i64_at image 104;
-  })
+  header ← front_header image
+  given (nat_le (32 + header.segment.allocated) (length image)) header
+
+-- what the data of a file header says; FilePart is the end of the identity
+pub record FileHead : Type 0 where
+  pub identity : List ℕ
+  pub directory : ℤ
+  pub metadata : ℤ
+  pub pending : ℤ
+  pub attachments : ℤ
+
+abbrev pub front_head : List ℕ → FileHead
+front_head bytes = record {
+  identity = bytes_at bytes 32 52;
+  directory = i64_at bytes 84;
+  metadata = i64_at bytes 92;
+  pending = i32_at bytes 100;
+  attachments = i64_at bytes 104;
+}
+
+-- a file header of 512 bytes of data, written
+abbrev pub file_segment : Segment
+file_segment = record { at = 0; id = file_id; allocated = 512; used = 512 }
+
+abbrev pub file_header_bytes : FileHead → List ℕ
+file_header_bytes h = header_bytes file_segment
+    ++ (h.identity ++ (i64_bytes h.directory ++ (i64_bytes h.metadata ++ (i32_bytes h.pending ++ (i64_bytes h.attachments ++ replicate 432 0)))))
+
+-- the file header that was written so
+abbrev pub header_with : FileHead → FileHeader
+header_with h = record { segment = file_segment; identity = h.identity; part = pos 0; directory = h.directory; metadata = h.metadata; attachments = h.attachments }
+
+-- what can be written: the identity of a first part, and fields in their ranges
+pub record IsFileHead (h : FileHead) : Type 0 where
+  pub identity : length h.identity ≡ 52
+  pub part : i32_at h.identity 48 ≡ pos 0
+  pub directory : FitsSigned w64 h.directory
+  pub metadata : FitsSigned w64 h.metadata
+  pub pending : FitsSigned w32 h.pending
+  pub attachments : FitsSigned w64 h.attachments
 
 -- a directory of either kind, and its number of entries
 pub record Directory : Type 0 where

@@ -1,7 +1,7 @@
-use Rattle.std.proofs.Common.{rules, ◌≡◌, ◌+◌, ◌*◌, ◌≤◌, length, map, drop, Some, ap, sym, ◌∙◌, arith}
+use Rattle.std.proofs.Common.{rules, ◌≡◌, ◌+◌, ◌*◌, length, map, drop, Some, ap, sym, ◌∙◌}
 use Rattle.std.proofs.lemmas.List.{length-map}
-use Rattle.czi_format.specs.Entry.{Entry, dims, entry, entry_fields, entry_len, with_records}
-use Rattle.czi_format.proofs.EntryRules.{HoldsEntry, rules_hold, entry_bytes_are, length-dims}
+use Rattle.czi_format.specs.Entry.{dims, entry_len, with_records}
+use Rattle.czi_format.proofs.EntryRules.{HoldsEntry, rules_hold, entry_bytes_are}
 use Rattle.czi_doc.specs.View.{dim_of}
 use Rattle.czi_dv.specs.View.{entry_of}
 use Rattle.czi_dv.proofs.Faults.{no_entry, some_entry}

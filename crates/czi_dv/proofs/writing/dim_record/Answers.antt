@@ -1,7 +1,7 @@
 use Rattle.std.proofs.Common.{◌≡◌, ◌∙◌, rules}
 use Rattle.std.proofs.lemmas.Int.{to_z-of_z}
 use Rattle.std.specs.Int.{cast_signed, cast_unsigned, w32}
-use Rattle.std.specs.Prelude.{FitsSigned, ℤ}
+use Rattle.std.specs.Prelude.{ℤ}
 use Rattle.czi_doc.specs.View.{dim_of}
 use Rattle.czi_format.specs.Entry.{Dim, IsDim, dim_bytes}
 use Rattle.czi_dv.proofs.Written.{record_written}

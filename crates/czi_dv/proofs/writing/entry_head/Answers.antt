@@ -1,11 +1,11 @@
-use Rattle.std.proofs.Common.{◌≡◌, ◌∙◌, ap, length, map, pos, rules}
+use Rattle.std.proofs.Common.{◌≡◌, ◌∙◌, ap, length, rules}
 use Rattle.std.proofs.lemmas.Int.{to_z-of_z}
 use Rattle.std.proofs.lemmas.List.{length-map}
 use Rattle.std.specs.Int.{cast_signed, cast_unsigned, w32, w64}
-use Rattle.std.specs.Prelude.{FitsSigned, ℤ}
-use Rattle.czi_doc.specs.View.{dim_of, info_of, records}
+use Rattle.std.specs.Prelude.{FitsSigned}
+use Rattle.czi_doc.specs.View.{info_of, records}
 use Rattle.czi_format.specs.Bytes.{put_at, u32_bytes}
-use Rattle.czi_format.specs.Entry.{Dim, EntryInfo, head_bytes}
+use Rattle.czi_format.specs.Entry.{EntryInfo, head_bytes}
 use Rattle.czi_dv.proofs.Written.{head_written}
 use Rattle.czi_dv.proofs.writing.entry_head.Goals as goal
 

@@ -1,0 +1,159 @@
+//! The fronts of subblock data and of metadata data in the ZISRAW format.
+#![tactic(auto)]
+
+ghost use Rattle.std.specs.Prelude.{◌≡◌, ◌+◌, ◌≤◌, option_map, IfSome};
+ghost use Rattle.czi_format.specs.Contents.{meta_head, sub_head};
+ghost use Rattle.czi_format.specs.Partial.{natural};
+ghost use Rattle.czi_body.specs.View.{meta_head_of, sub_head_of};
+
+use czi_num::{read_i32, read_i64};
+
+/// The front of subblock data: how long its contents are, in bytes, and where they begin in the data.
+///
+/// The contents are the metadata, the pixels and the attachment, one behind the other.
+#[derive(Clone, Copy, Debug, PartialEq, Eq)]
+pub struct SubHead {
+    /// MetadataSize.
+    pub meta: u32,
+    /// DataSize.
+    pub pixels: u64,
+    /// AttachmentSize.
+    pub tail: u32,
+    /// The place in the data at which the contents begin.
+    pub begin: u64,
+}
+
+/// The front of subblock data, of which the first 48 bytes are looked at: three sizes and the number of
+/// dimension records of the subblock's own directory entry.
+///
+/// None exactly where a size is negative or that number isn't 0 to 40.
+#[tactic(auto, unfolding(czi_format::specs::Contents::sub_head))]
+pub fn read_sub_head(bytes: &[u8; 48]) -> Option<SubHead>
+    ensures read { option_map sub_head_of result ≡ sub_head bytes.now }
+    ensures begin { IfSome result (λ h. (256 ≤ h.begin) × (h.begin ≤ 848)) }
+{
+    let meta = natural_32(read_i32(bytes, 0))?;
+    let tail = natural_32(read_i32(bytes, 4))?;
+    let pixels = natural_64(read_i64(bytes, 8))?;
+    let own = natural_32(read_i32(bytes, 44))?;
+    if own > 40 {
+        return None;
+    }
+    let begin = (16 + 32 + 20 * own as u64).max(256);
+    Some(SubHead {
+        meta,
+        pixels,
+        tail,
+        begin,
+    })
+}
+
+/// The front of metadata data: how long its contents are, in bytes. They begin at place 256 of the data.
+#[derive(Clone, Copy, Debug, PartialEq, Eq)]
+pub struct MetaHead {
+    /// XmlSize.
+    pub xml: u32,
+    /// AttachmentSize.
+    pub tail: u32,
+}
+
+/// The front of metadata data, or none exactly where a size is negative.
+#[tactic(auto, unfolding(czi_format::specs::Contents::meta_head))]
+pub fn read_meta_head(bytes: &[u8; 8]) -> Option<MetaHead>
+    ensures { option_map meta_head_of result ≡ meta_head bytes.now }
+{
+    let xml = natural_32(read_i32(bytes, 0))?;
+    let tail = natural_32(read_i32(bytes, 4))?;
+    Some(MetaHead { xml, tail })
+}
+
+/// A number of four bytes that isn't negative.
+fn natural_32(stored: i32) -> Option<u32>
+    ensures { result ≡ natural stored }
+{
+    if stored < 0 {
+        None
+    } else {
+        Some(stored as u32)
+    }
+}
+
+/// A number of eight bytes that isn't negative.
+fn natural_64(stored: i64) -> Option<u64>
+    ensures { result ≡ natural stored }
+{
+    if stored < 0 {
+        None
+    } else {
+        Some(stored as u64)
+    }
+}
+
+#[cfg(test)]
+mod tests {
+    use super::*;
+
+    #[test]
+    fn fronts_of_subblocks_are_read(rt: HostRuntime) {
+        // A tile of 8 bytes of pixels with three dimension records, and one with 25.
+        let mut bytes = [0u8; 48];
+        bytes[8] = 8;
+        bytes[44] = 3;
+        assert_eq!(rt;
+            read_sub_head(&bytes),
+            Some(SubHead {
+                meta: 0,
+                pixels: 8,
+                tail: 0,
+                begin: 256
+            })
+        );
+        bytes[1] = 0x10;
+        bytes[4] = 7;
+        bytes[12] = 1;
+        bytes[44] = 25;
+        assert_eq!(rt;
+            read_sub_head(&bytes),
+            Some(SubHead {
+                meta: 4096,
+                pixels: 0x1_0000_0008,
+                tail: 7,
+                begin: 548
+            })
+        );
+        bytes[44] = 40;
+        assert_eq!(rt; read_sub_head(&bytes).map(|h| h.begin), Some(848));
+        bytes[44] = 41;
+        assert_eq!(rt; read_sub_head(&bytes), None);
+        bytes[44] = 0;
+        assert_eq!(rt; read_sub_head(&bytes).map(|h| h.begin), Some(256));
+        bytes[47] = 0x80;
+        assert_eq!(rt; read_sub_head(&bytes), None);
+    }
+
+    #[test]
+    fn negative_sizes_of_subblocks_are_refused(rt: HostRuntime) {
+        let mut meta = [0u8; 48];
+        meta[3] = 0x80;
+        let mut tail = [0u8; 48];
+        tail[7] = 0xFF;
+        let mut pixels = [0u8; 48];
+        pixels[15] = 0x80;
+        assert_eq!(rt; read_sub_head(&meta), None);
+        assert_eq!(rt; read_sub_head(&tail), None);
+        assert_eq!(rt; read_sub_head(&pixels), None);
+    }
+
+    #[test]
+    fn fronts_of_metadata_are_read(rt: HostRuntime) {
+        assert_eq!(rt;
+            read_meta_head(&[0x40, 0x9C, 0, 0, 5, 0, 0, 0]),
+            Some(MetaHead {
+                xml: 40000,
+                tail: 5
+            })
+        );
+        assert_eq!(rt; read_meta_head(&[0, 0, 0, 0x80, 5, 0, 0, 0]), None);
+        assert_eq!(rt; read_meta_head(&[0, 0, 0, 0, 5, 0, 0, 0xFF]), None);
+    }
+}

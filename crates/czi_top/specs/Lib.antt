@@ -1,0 +1,13 @@
+pub mod Words
+pub mod Listing
+pub mod View
+pub mod Windows
+pub mod Found
+pub mod Text
+pub mod Inside
+pub mod Entries
+pub mod Tiles
+pub mod Causes
+pub mod Answers
+pub mod Run
+pub mod Reply
