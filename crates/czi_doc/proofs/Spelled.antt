@@ -7,7 +7,7 @@ use Rattle.std.specs.Str.Parse.{digits_value}
 use Rattle.std.proofs.lemmas.Bool.{cases_Bool, eqb-true, leb-true}
 use Rattle.std.proofs.lemmas.Bool.Decides.{nat_tests}
 use Rattle.std.proofs.lemmas.List.{take-append-drop, length-take-le}
-use Rattle.czi_format.specs.DimText.{IsNatural, IsNumber, IsName, AreSizes, IsItem, AreItems, IsInRange, IsDimText, is_letter}
+use Rattle.czi_doc.specs.DimText.{IsNatural, IsNumber, IsName, AreSizes, IsItem, AreItems, IsInRange, IsDimText, is_letter}
 use Rattle.czi_format.specs.FirstFault.{◌>>=◌}
 use Rattle.czi_format.specs.Entry.{Dim}
 use Rattle.czi_doc.specs.Reading.{Read, name_len, name_at, number_len, magnitude_at, negative_at, positive_at, begins_with, number_at, Sizes, stored_at, sizes_at, item_at, behind, items_at}

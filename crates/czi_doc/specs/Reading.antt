@@ -5,7 +5,7 @@ use Rattle.std.specs.Char.{is_ascii_digit}
 use Rattle.std.specs.Str.Parse.{digits_value}
 use Rattle.czi_format.specs.FirstFault.{◌>>=◌}
 use Rattle.czi_format.specs.Entry.{Dim}
-use Rattle.czi_format.specs.DimText.{is_letter}
+use Rattle.czi_doc.specs.DimText.{is_letter}
 
 -- something read, and the bytes behind it
 pub record Read (X : Type 0) : Type 0 where

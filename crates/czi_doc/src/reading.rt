@@ -2,7 +2,7 @@
 
 ghost use Rattle.std.specs.Prelude.{◌≡◌, ◌+◌, ◌-◌, ◌^◌, ◌≤◌, ◌<◌, ◌++◌, length, replicate, MatchOption, MatchResult, IfOk};
 ghost use Rattle.std.specs.Str.Parse.{AllDigits, digits_value};
-ghost use Rattle.czi_format.specs.DimText.{IsDimText};
+ghost use Rattle.czi_doc.specs.DimText.{IsDimText};
 ghost use Rattle.czi_doc.specs.View.{dim_of, dims_of};
 ghost use Rattle.czi_doc.specs.Reading.{Read, Sizes, name_len, name_at, number_len, magnitude_at, negative_at, positive_at, begins_with, number_at, stored_at, sizes_at, item_at, items_at};
 ghost use Rattle.czi_doc.specs.Seen.{Tells, seen};

@@ -1,6 +1,6 @@
 use Rattle.std.proofs.Common.{◌≡◌, ◌+◌, drop}
 use Rattle.std.specs.List.{prefix_len}
-use Rattle.czi_format.specs.DimText.{is_letter}
+use Rattle.czi_doc.specs.DimText.{is_letter}
 use Rattle.czi_doc.proofs.reading.name_len.Given as goal
 
 -- all that were passed are letters
