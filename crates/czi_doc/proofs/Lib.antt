@@ -4,3 +4,4 @@ pub mod Equal
 pub mod Prefixes
 pub mod InTurn
 pub mod Spelled
+pub mod Rails
