@@ -5,3 +5,5 @@ pub mod Prefixes
 pub mod InTurn
 pub mod Spelled
 pub mod Rails
+pub mod Breaks
+pub mod Begun

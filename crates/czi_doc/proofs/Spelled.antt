@@ -24,7 +24,7 @@ pub record LettersAt (n : ℕ) (bytes : List ℕ) (k : ℕ) : Type 0 where
   pub inside : k ≤ length bytes
   pub letters : AllByRecursion (λ b. IsTrue (is_letter b)) (take k bytes)
 
-letters_at : (n : ℕ) (bytes : List ℕ) → LettersAt n bytes (prefix_len is_letter (take n bytes))
+pub letters_at : (n : ℕ) (bytes : List ℕ) → LettersAt n bytes (prefix_len is_letter (take n bytes))
 letters_at zero bytes = record { few = omega arith; inside = omega arith; letters = tt }
 letters_at (suc n) [] = record { few = omega arith; inside = omega arith; letters = tt }
 letters_at (suc n) (b ∷ bytes) = elim (cases_Bool (is_letter b)) [
@@ -97,7 +97,7 @@ prefix_inside (b ∷ bytes) = elim (cases_Bool (is_ascii_digit b)) [
     none : is_ascii_digit b ≡ false → prefix_len is_ascii_digit (b ∷ bytes) ≡ 0
     none e = rw e
 
-number_inside : (bytes : List ℕ) → number_len bytes ≤ length bytes
+pub number_inside : (bytes : List ℕ) → number_len bytes ≤ length bytes
 number_inside [] = omega arith
 number_inside (b ∷ bytes) = elim (cases_Bool (b == 48)) [
   | inl e ↦ omega (arith, zero_first e)
@@ -110,7 +110,7 @@ number_inside (b ∷ bytes) = elim (cases_Bool (b == 48)) [
     run : (b == 48) ≡ false → number_len (b ∷ bytes) ≡ prefix_len is_ascii_digit (b ∷ bytes)
     run t = rw t
 
-natural_front : (bytes : List ℕ) → 0 < length (take (number_len bytes) bytes) → IsNatural (take (number_len bytes) bytes) (magnitude_at bytes)
+pub natural_front : (bytes : List ℕ) → 0 < length (take (number_len bytes) bytes) → IsNatural (take (number_len bytes) bytes) (magnitude_at bytes)
 natural_front bytes some = record { digits = (some, front_digits bytes); lean = lean_front bytes; value = refl }
 
 pub record NumberAt (bytes : List ℕ) (r : Read ℤ) : Type 0 where
@@ -126,11 +126,11 @@ fits_neg : (n : ℕ) → n ≤ 2147483648 → FitsSigned w32 (neg_ℤ (pos n))
 fits_neg zero h = record { sfits = omega arith }
 fits_neg (suc n) h = record { sfits = omega arith }
 
-neg_number : (n : ℕ) (digits : List ℕ) → (n == 0) ≡ false → IsNatural digits n → IsNumber (45 ∷ digits) (neg_ℤ (pos n))
+pub neg_number : (n : ℕ) (digits : List ℕ) → (n == 0) ≡ false → IsNatural digits n → IsNumber (45 ∷ digits) (neg_ℤ (pos n))
 neg_number zero digits some natural = cc
 neg_number (suc n) digits some natural = (digits, refl, subst (IsNatural digits) (omega arith) natural)
 
-front_is : (b : ℕ) (bytes : List ℕ) → begins_with b bytes ≡ true → bytes ≡ b ∷ drop 1 bytes
+pub front_is : (b : ℕ) (bytes : List ℕ) → begins_with b bytes ≡ true → bytes ≡ b ∷ drop 1 bytes
 front_is b [] e = cc
 front_is b (c ∷ bytes) e = ap (λ z. z ∷ bytes) (eqb-true c b (second _ _ e))
   where
@@ -160,7 +160,7 @@ positive_found bytes r e = elim (cases_Bool (number_len bytes == 0)) [
         long t = let n : 0 < number_len bytes = grind (arith, nat_tests) in omega (arith, n, length-take-le (number_len bytes) bytes (number_inside bytes))
 
 -- some digits spell a number other than 0
-some_digits : (bytes : List ℕ) → (magnitude_at bytes == 0) ≡ false → 0 < length (take (number_len bytes) bytes)
+pub some_digits : (bytes : List ℕ) → (magnitude_at bytes == 0) ≡ false → 0 < length (take (number_len bytes) bytes)
 some_digits bytes t = by_front (take (number_len bytes) bytes) t
   where
     by_front : (ds : List ℕ) → (digits_value 10 ds == 0) ≡ false → 0 < length ds
@@ -293,15 +293,15 @@ front_item : (n : ℕ) (bytes rest : List ℕ) (d : Dim) (text : List ℕ) (more
 front_item n bytes rest d text [] whole is_item range r = absurd r.items
 front_item n bytes rest d text (e ∷ more) whole is_item range r = record { items = (text, rest, whole, is_item, r.items); few = omega (arith, r.few); fits = (range, r.fits) }
 
-items_step : (n : ℕ) (bytes : List ℕ) → items_at (suc n) bytes ≡ (item_at bytes >>= λ item. behind (items_at n) item.it item.rest)
+pub items_step : (n : ℕ) (bytes : List ℕ) → items_at (suc n) bytes ≡ (item_at bytes >>= λ item. behind (items_at n) item.it item.rest)
 unfolding items_at
 items_step n bytes = refl
 
-no_items : (bytes : List ℕ) → items_at 0 bytes ≡ Err (suc (length bytes))
+pub no_items : (bytes : List ℕ) → items_at 0 bytes ≡ Err (suc (length bytes))
 unfolding items_at
 no_items bytes = refl
 
-no_bytes : (bytes : List ℕ) → (length bytes == 0) ≡ true → bytes ≡ []
+pub no_bytes : (bytes : List ℕ) → (length bytes == 0) ≡ true → bytes ≡ []
 no_bytes [] e = refl
 no_bytes (b ∷ bytes) e = absurd (let none : length (b ∷ bytes) ≡ 0 = eqb-true _ _ e in omega arith)
 
