@@ -6,3 +6,7 @@ pub mod InTurn
 pub mod Spelled
 pub mod ReadAgain
 pub mod InRange
+pub mod Rails
+pub mod Breaks
+pub mod Begun
+pub mod FaultFirst

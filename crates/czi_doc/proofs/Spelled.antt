@@ -97,7 +97,7 @@ prefix_inside (b ∷ bytes) = elim (cases_Bool (is_ascii_digit b)) [
     none : is_ascii_digit b ≡ false → prefix_len is_ascii_digit (b ∷ bytes) ≡ 0
     none e = rw e
 
-number_inside : (bytes : List ℕ) → number_len bytes ≤ length bytes
+pub number_inside : (bytes : List ℕ) → number_len bytes ≤ length bytes
 number_inside [] = omega arith
 number_inside (b ∷ bytes) = elim (cases_Bool (b == 48)) [
   | inl e ↦ omega (arith, zero_first e)
@@ -110,7 +110,7 @@ number_inside (b ∷ bytes) = elim (cases_Bool (b == 48)) [
     run : (b == 48) ≡ false → number_len (b ∷ bytes) ≡ prefix_len is_ascii_digit (b ∷ bytes)
     run t = rw t
 
-natural_front : (bytes : List ℕ) → 0 < length (take (number_len bytes) bytes) → IsNatural (take (number_len bytes) bytes) (magnitude_at bytes)
+pub natural_front : (bytes : List ℕ) → 0 < length (take (number_len bytes) bytes) → IsNatural (take (number_len bytes) bytes) (magnitude_at bytes)
 natural_front bytes some = record { digits = (some, front_digits bytes); lean = lean_front bytes; value = refl }
 
 pub record NumberAt (bytes : List ℕ) (r : Read ℤ) : Type 0 where
@@ -126,7 +126,7 @@ fits_neg : (n : ℕ) → n ≤ 2147483648 → FitsSigned w32 (neg_ℤ (pos n))
 fits_neg zero h = record { sfits = omega arith }
 fits_neg (suc n) h = record { sfits = omega arith }
 
-neg_number : (n : ℕ) (digits : List ℕ) → (n == 0) ≡ false → IsNatural digits n → IsNumber (45 ∷ digits) (neg_ℤ (pos n))
+pub neg_number : (n : ℕ) (digits : List ℕ) → (n == 0) ≡ false → IsNatural digits n → IsNumber (45 ∷ digits) (neg_ℤ (pos n))
 neg_number zero digits some natural = cc
 neg_number (suc n) digits some natural = (digits, refl, subst (IsNatural digits) (omega arith) natural)
 
@@ -160,7 +160,7 @@ positive_found bytes r e = elim (cases_Bool (number_len bytes == 0)) [
         long t = let n : 0 < number_len bytes = grind (arith, nat_tests) in omega (arith, n, length-take-le (number_len bytes) bytes (number_inside bytes))
 
 -- some digits spell a number other than 0
-some_digits : (bytes : List ℕ) → (magnitude_at bytes == 0) ≡ false → 0 < length (take (number_len bytes) bytes)
+pub some_digits : (bytes : List ℕ) → (magnitude_at bytes == 0) ≡ false → 0 < length (take (number_len bytes) bytes)
 some_digits bytes t = by_front (take (number_len bytes) bytes) t
   where
     by_front : (ds : List ℕ) → (digits_value 10 ds == 0) ≡ false → 0 < length ds
@@ -301,7 +301,7 @@ pub no_items : (bytes : List ℕ) → items_at 0 bytes ≡ Err (suc (length byte
 unfolding items_at
 no_items bytes = refl
 
-no_bytes : (bytes : List ℕ) → (length bytes == 0) ≡ true → bytes ≡ []
+pub no_bytes : (bytes : List ℕ) → (length bytes == 0) ≡ true → bytes ≡ []
 no_bytes [] e = refl
 no_bytes (b ∷ bytes) e = absurd (let none : length (b ∷ bytes) ≡ 0 = eqb-true _ _ e in omega arith)
 

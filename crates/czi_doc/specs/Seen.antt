@@ -1,7 +1,7 @@
 -- What a reader answered, as the reading has it.
 use Rattle.std.specs.Prelude.{◌≡◌, ℕ, ◌+◌, List, length, Result, Ok, Err, MatchResult}
 use Rattle.czi_format.specs.Entry.{Dim}
-use Rattle.czi_doc.specs.DimText.{IsDimText}
+use Rattle.czi_doc.specs.DimText.{IsDimText, IsFirstFault}
 use Rattle.czi_doc.specs.declared.fault.TextFault.{TextFault}
 use Rattle.czi_doc.specs.declared.fault.TextFault.TheVariants.{Bad, Memory}
 
@@ -21,3 +21,12 @@ Tells text view (Err fault) read = TellsFault text fault read
 -- The code answers each dimension text with its dimensions, unless memory runs out.
 abbrev pub ReadsEach : {X : Type 0} → List ℕ → (X → List Dim) → Result X TextFault → Type 0
 ReadsEach text view result = (ds : List Dim) → IsDimText text ds → MatchResult result (λ x. view x ≡ ds) (λ fault. fault ≡ Memory)
+
+-- A fault is told by its place, and it is the first of the text.
+abbrev pub IsToldFirst : List ℕ → TextFault → Type 0
+IsToldFirst text Memory = Unit {0}
+IsToldFirst text (Bad place) = IsFirstFault text place
+
+abbrev pub TellsFirst : {X : Type 0} → List ℕ → Result X TextFault → Type 0
+TellsFirst text (Ok x) = Unit {0}
+TellsFirst text (Err fault) = IsToldFirst text fault

@@ -5,7 +5,7 @@ ghost use Rattle.std.specs.Str.Parse.{AllDigits, digits_value};
 ghost use Rattle.czi_doc.specs.DimText.{IsDimText};
 ghost use Rattle.czi_doc.specs.View.{dim_of, dims_of};
 ghost use Rattle.czi_doc.specs.Reading.{Read, Sizes, name_len, name_at, number_len, magnitude_at, negative_at, positive_at, begins_with, number_at, stored_at, sizes_at, item_at, items_at};
-ghost use Rattle.czi_doc.specs.Seen.{ReadsEach, Tells, seen};
+ghost use Rattle.czi_doc.specs.Seen.{ReadsEach, Tells, TellsFirst, seen};
 
 use crate::dimensions::{Dim, Dims};
 use crate::fault::TextFault;
@@ -182,6 +182,7 @@ pub fn read_dims(alloc: Global, text: &[u8]) -> Result<Dims, TextFault>
     ensures read { Tells text.now dims_of result (items_at 40 text.now) }
     ensures found { IfOk result (λ d. IsDimText text.now (dims_of d)) }
     ensures only { ReadsEach text.now dims_of result }
+    ensures bad { TellsFirst text.now result }
 {
     let mut dims = Vec::new(alloc);
     let mut rest = text;

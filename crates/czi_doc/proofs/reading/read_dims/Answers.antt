@@ -4,6 +4,7 @@ use Rattle.czi_doc.specs.View.{dim_of}
 use Rattle.czi_doc.specs.Reading.{items_at, with_front}
 use Rattle.czi_doc.proofs.Spelled.{found}
 use Rattle.czi_doc.proofs.ReadAgain.{only_ok, only_fault}
+use Rattle.czi_doc.proofs.FaultFirst.{told_first}
 use Rattle.czi_doc.proofs.InTurn.{fault, done, bad, next, over}
 use Rattle.czi_doc.proofs.reading.read_dims.Goals as goal
 
@@ -64,3 +65,12 @@ returns-then-not-begins_with-clause-only c = λ ds is. only_fault _ _ ds (return
 
 pub returns-clause-only : goal.returns-clause-only
 returns-clause-only c = λ ds is. only_fault _ _ ds (returns-clause-read c).1 is
+
+pub returns-in-Err-clause-bad : goal.returns-in-Err-clause-bad
+returns-in-Err-clause-bad c = let r = returns-in-Err-clause-read c in told_first _ _ r.0 r.1 r.2
+
+pub returns-then-not-begins_with-clause-bad : goal.returns-then-not-begins_with-clause-bad
+returns-then-not-begins_with-clause-bad c = let r = returns-then-not-begins_with-clause-read c in told_first _ _ r.0 r.1 r.2
+
+pub returns-clause-bad : goal.returns-clause-bad
+returns-clause-bad c = let r = returns-clause-read c in told_first _ _ r.0 r.1 r.2
