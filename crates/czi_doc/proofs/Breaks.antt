@@ -4,16 +4,16 @@ use Rattle.std.specs.Prelude.{IsTrue, replicate, slice_index, FitsSigned, neg_�
 use Rattle.std.specs.List.{prefix_len, AllByRecursion}
 use Rattle.std.specs.Char.{is_ascii_digit, digit_value}
 use Rattle.std.specs.Str.Parse.{digits_value}
-use Rattle.std.proofs.lemmas.Bool.{cases_Bool, eqb-true, leb-true}
+use Rattle.std.proofs.lemmas.Bool.{cases_Bool, eqb-true}
 use Rattle.std.proofs.lemmas.Bool.Decides.{nat_tests}
 use Rattle.std.proofs.lemmas.List.{take-append-drop, length-take-le, length-append, take_at, drop_at}
-use Rattle.czi_doc.specs.DimText.{IsNatural, IsNumber, IsName, AreSizes, IsItem, AreItems, is_letter}
+use Rattle.czi_doc.specs.DimText.{IsNumber, IsName, AreSizes, IsItem, AreItems, is_letter}
 use Rattle.czi_format.specs.FirstFault.{◌>>=◌}
 use Rattle.czi_format.specs.Entry.{Dim}
 use Rattle.czi_doc.specs.Reading.{Read, name_len, name_at, number_len, magnitude_at, negative_at, positive_at, begins_with, number_at, Sizes, stored_at, sizes_at, item_at, behind, items_at}
 use Rattle.czi_doc.proofs.Prefixes.{value_grows}
 use Rattle.czi_doc.proofs.Spelled.{LettersAt, letters_at, number_inside, natural_front, neg_number, front_is, some_digits, items_step, no_items}
-use Rattle.czi_doc.proofs.Rails.{Spot, fresh, name, due, sign, lone, digits, dead, next_item, after_item, after, before_number, arrow, run, final, run_on, run_dead, items_run}
+use Rattle.czi_doc.proofs.Rails.{Spot, fresh, name, due, sign, lone, digits, dead, after_item, after, before_number, arrow, run, final, run_on, run_dead, items_run}
 
 -- the last byte, or b before the first
 abbrev pub last_or : ℕ → List ℕ → ℕ

@@ -1,5 +1,5 @@
 -- Where reading breaks off is the first fault of the text.
-use Rattle.std.proofs.Common.{◌≡◌, ℕ, zero, suc, ◌+◌, ◌-◌, ◌<◌, ◌≤◌, List, [], ◌∷◌, ◌++◌, take, drop, length, Err, refl, ap, sym, ◌∙◌, subst, arith, inl, inr, append_assoc}
+use Rattle.std.proofs.Common.{◌≡◌, ℕ, zero, suc, ◌+◌, ◌-◌, ◌<◌, ◌≤◌, List, [], ◌∷◌, ◌++◌, take, drop, length, Err, refl, ap, ◌∙◌, subst, arith, inl, inr, append_assoc}
 use Rattle.czi_doc.specs.DimText.{AreItems, Begins, IsFaultAt, IsFirstFault}
 use Rattle.czi_doc.specs.Reading.{items_at}
 use Rattle.czi_doc.proofs.Breaks.{breaks}
