@@ -115,7 +115,7 @@ digits_stop n p [] = refl
 digits_stop n p (b ∷ bytes) = elim (cases_Bool (is_ascii_digit b)) [
   | inl e ↦ let k : ℕ = prefix_len is_ascii_digit bytes in
       subst (StopsAt (digits n p) (after n p) true (b ∷ bytes)) (sym (digit_more b bytes e))
-        (subst (λ s. Acts (run s (take k bytes)) (after n p) true (drop k bytes)) (sym (goes e)) (digits_stop n p bytes))
+      (subst (λ s. Acts (run s (take k bytes)) (after n p) true (drop k bytes)) (sym (goes e)) (digits_stop n p bytes))
   | inr e ↦ subst (StopsAt (digits n p) (after n p) true (b ∷ bytes)) (sym (digit_none b bytes e)) (stops e)
 ]
   where
@@ -140,7 +140,7 @@ digit_stop : (n p : ℕ) (s : Spot) (b : ℕ) (bytes : List ℕ) → (b == 48) �
 digit_stop n p s b bytes t u goes =
     let k : ℕ = prefix_len is_ascii_digit bytes in
     subst (StopsAt s (after n p) true (b ∷ bytes)) (sym (len_run b bytes t ∙ digit_more b bytes u))
-      (subst (λ r. Acts (run r (take k bytes)) (after n p) true (drop k bytes)) (sym goes) (digits_stop n p bytes))
+    (subst (λ r. Acts (run r (take k bytes)) (after n p) true (drop k bytes)) (sym goes) (digits_stop n p bytes))
 
 positive_stop : (n p : ℕ) (s : Spot) (bytes : List ℕ) → Acts s (before_number n p) false bytes → (number_len bytes == 0) ≡ false → StopsAt s (after n p) true bytes (number_len bytes)
 positive_stop n p s [] acts some = cc
@@ -248,7 +248,7 @@ positive_out : (before n p : ℕ) (s : Spot) (bytes : List ℕ) → BeginsNumber
 unfolding positive_at
 positive_out before n p s bytes begins acts plus =
     out_if (NumberRuns n p s bytes) (Fault SomeNumber before s bytes) (number_len bytes == 0) (Err (length bytes)) _
-      none (λ u. out_if (NumberRuns n p s bytes) (Fault SomeNumber before s bytes) (nat_le (magnitude_at bytes) 2147483647) (Ok _) (Err (length bytes)) (λ t. good u) (large u))
+    none (λ u. out_if (NumberRuns n p s bytes) (Fault SomeNumber before s bytes) (nat_le (magnitude_at bytes) 2147483647) (Ok _) (Err (length bytes)) (λ t. good u) (large u))
   where
     none : (number_len bytes == 0) ≡ true → Fault SomeNumber before s bytes (length bytes)
     none t = record { front = []; back = bytes; whole = refl; left_is = refl; why = inl (positive_stuck n p s bytes acts plus t); more = 48 ∷ []; closed = (pos 0, zero_number) }
@@ -285,7 +285,7 @@ negative_out : (before n p : ℕ) (s : Spot) (bytes : List ℕ) → BeginsNumber
 unfolding negative_at
 negative_out before n p s bytes begins goes =
     out_if (NumberRuns n p s (45 ∷ bytes)) (Fault SomeNumber before s (45 ∷ bytes)) (magnitude_at bytes == 0) (Err (length bytes)) _
-      none (λ u. out_if (NumberRuns n p s (45 ∷ bytes)) (Fault SomeNumber before s (45 ∷ bytes)) (nat_le (magnitude_at bytes) 2147483648) (Ok _) (Err (suc (length bytes))) (λ t. good u) (large u))
+    none (λ u. out_if (NumberRuns n p s (45 ∷ bytes)) (Fault SomeNumber before s (45 ∷ bytes)) (nat_le (magnitude_at bytes) 2147483648) (Ok _) (Err (suc (length bytes))) (λ t. good u) (large u))
   where
     none : (magnitude_at bytes == 0) ≡ true → Fault SomeNumber before s (45 ∷ bytes) (length bytes)
     none t = record {
@@ -368,7 +368,7 @@ letters_stop n (suc m) [] = refl
 letters_stop n (suc m) (b ∷ bytes) = elim (cases_Bool (is_letter b)) [
   | inl e ↦ let k : ℕ = prefix_len is_letter (take m bytes) in
       subst (StopsAt (name n (suc m)) (before_number n 2) false (b ∷ bytes)) (sym (letter_more b (take m bytes) e))
-        (subst (λ s. Acts (run s (take k bytes)) (before_number n 2) false (drop k bytes)) (sym (goes e)) (letters_stop n m bytes))
+      (subst (λ s. Acts (run s (take k bytes)) (before_number n 2) false (drop k bytes)) (sym (goes e)) (letters_stop n m bytes))
   | inr e ↦ subst (StopsAt (name n (suc m)) (before_number n 2) false (b ∷ bytes)) (sym (letter_none b (take m bytes) e)) (stops e)
 ]
   where
@@ -383,7 +383,7 @@ name_stop n [] some = cc
 name_stop n (b ∷ bytes) some = elim (cases_Bool (is_letter b)) [
   | inl e ↦ let k : ℕ = prefix_len is_letter (take 3 bytes) in
       subst (StopsAt (fresh n) (before_number n 2) false (b ∷ bytes)) (sym (letter_more b (take 3 bytes) e))
-        (subst (λ s. Acts (run s (take k bytes)) (before_number n 2) false (drop k bytes)) (sym (goes e)) (letters_stop n 3 bytes))
+      (subst (λ s. Acts (run s (take k bytes)) (before_number n 2) false (drop k bytes)) (sym (goes e)) (letters_stop n 3 bytes))
   | inr e ↦ absurd (let z : (name_len (b ∷ bytes) == 0) ≡ true = ap (λ k. k == 0) (letter_none b (take 3 bytes) e) in cc)
 ]
   where
@@ -402,17 +402,20 @@ name_stuck n (b ∷ bytes) none = elim (cases_Bool (is_letter b)) [
 
 -- an item that goes no further than its start
 started_item : (called start : List ℕ) (v : ℤ) → IsName called → IsNumber start v → SomeItem (called ++ start)
-started_item called start v is_name number = (record { name = called ++ replicate (4 - length called) 0; start = v; size = pos 1; coord = replicate 4 0; stored = pos 1 }, record {
-  name = called;
-  start = start;
-  sizes = [];
-  whole = ap (λ l. called ++ l) (sym (append-nil start));
-  is_name = is_name;
-  is_start = number;
-  are_sizes = inl (refl, refl, refl);
-  padded = refl;
-  coord = refl;
-})
+started_item called start v is_name number = (
+  record { name = called ++ replicate (4 - length called) 0; start = v; size = pos 1; coord = replicate 4 0; stored = pos 1 },
+  record {
+    name = called;
+    start = start;
+    sizes = [];
+    whole = ap (λ l. called ++ l) (sym (append-nil start));
+    is_name = is_name;
+    is_start = number;
+    are_sizes = inl (refl, refl, refl);
+    padded = refl;
+    coord = refl;
+  },
+)
 
 name_out : (n before : ℕ) (bytes : List ℕ) → Out (NameRuns n before bytes) (Fault SomeItem before (fresh n) bytes) (name_at bytes)
 unfolding name_at
@@ -474,7 +477,7 @@ stored_out : (n before : ℕ) (s : Spot) (size : ℤ) (a bytes : List ℕ) → I
     → Out (SizesRuns n s (58 ∷ (a ++ bytes))) (Fault SomeSizes before s (58 ∷ (a ++ bytes))) (stored_at size bytes)
 stored_out n before s size a bytes number acts =
     out_if (SizesRuns n s (58 ∷ (a ++ bytes))) (Fault SomeSizes before s (58 ∷ (a ++ bytes))) (begins_with 58 bytes) _ (Ok _) two
-      (λ t. record { text = 58 ∷ a; are_sizes = inr (inl (a, refl, number, refl)); whole = refl; acts = no_colon n 0 (run s (58 ∷ a)) bytes t acts })
+    (λ t. record { text = 58 ∷ a; are_sizes = inr (inl (a, refl, number, refl)); whole = refl; acts = no_colon n 0 (run s (58 ∷ a)) bytes t acts })
   where
     two : begins_with 58 bytes ≡ true
         → Out (SizesRuns n s (58 ∷ (a ++ bytes))) (Fault SomeSizes before s (58 ∷ (a ++ bytes))) (number_at (drop 1 bytes) >>= λ stored. Ok (record { it = record { size = size; stored = stored.it }; rest = stored.rest }))
@@ -483,7 +486,7 @@ stored_out n before s size a bytes number acts =
         let all : bytes ≡ 58 ∷ ds = front_is 58 bytes t in
         let goes : arrow (run s (58 ∷ a)) 58 ≡ due n 0 = subst (Acts (run s (58 ∷ a)) (after n 1) true) all acts in
         out_bind (NumberRuns n 0 (due n 0) ds) (Fault SomeNumber 58 (due n 0) ds) (SizesRuns n s (58 ∷ (a ++ bytes))) (Fault SomeSizes before s (58 ∷ (a ++ bytes))) (number_at ds) _ (colon_out n 0 ds)
-          (λ r g. good all goes r g) (λ left f. bad all goes left f)
+        (λ r g. good all goes r g) (λ left f. bad all goes left f)
       where
         good : bytes ≡ 58 ∷ drop 1 bytes → arrow (run s (58 ∷ a)) 58 ≡ due n 0 → (r : Read ℤ) → NumberRuns n 0 (due n 0) (drop 1 bytes) r
             → SizesRuns n s (58 ∷ (a ++ bytes)) (record { it = record { size = size; stored = r.it }; rest = r.rest })
@@ -503,7 +506,7 @@ stored_out n before s size a bytes number acts =
 sizes_out : (n before : ℕ) (s : Spot) (bytes : List ℕ) → Acts s (after n 2) true bytes → Out (SizesRuns n s bytes) (Fault SomeSizes before s bytes) (sizes_at bytes)
 sizes_out n before s bytes acts =
     out_if (SizesRuns n s bytes) (Fault SomeSizes before s bytes) (begins_with 58 bytes) _ (Ok _) some
-      (λ t. record { text = []; are_sizes = inl (refl, refl, refl); whole = refl; acts = no_colon n 1 s bytes t acts })
+    (λ t. record { text = []; are_sizes = inl (refl, refl, refl); whole = refl; acts = no_colon n 1 s bytes t acts })
   where
     some : begins_with 58 bytes ≡ true → Out (SizesRuns n s bytes) (Fault SomeSizes before s bytes) (number_at (drop 1 bytes) >>= λ size. stored_at size.it size.rest)
     some t =
@@ -511,7 +514,7 @@ sizes_out n before s bytes acts =
         let all : bytes ≡ 58 ∷ ds = front_is 58 bytes t in
         let goes : arrow s 58 ≡ due n 1 = subst (Acts s (after n 2) true) all acts in
         out_bind (NumberRuns n 1 (due n 1) ds) (Fault SomeNumber 58 (due n 1) ds) (SizesRuns n s bytes) (Fault SomeSizes before s bytes) (number_at ds) (λ size. stored_at size.it size.rest) (colon_out n 1 ds)
-          (λ r g. good all goes r g) (λ left f. bad all goes left f)
+        (λ r g. good all goes r g) (λ left f. bad all goes left f)
       where
         good : bytes ≡ 58 ∷ drop 1 bytes → arrow s 58 ≡ due n 1 → (r : Read ℤ) → NumberRuns n 1 (due n 1) (drop 1 bytes) r → Out (SizesRuns n s bytes) (Fault SomeSizes before s bytes) (stored_at r.it r.rest)
         good all goes r g = subst (λ l. Out (SizesRuns n s l) (Fault SomeSizes before s l) (stored_at r.it r.rest)) (sym (all ∙ ap (λ l. 58 ∷ l) g.whole))
@@ -530,29 +533,31 @@ record ItemRuns (n : ℕ) (bytes : List ℕ) (r : Read Dim) : Type 0 where
   acts : Acts (run (fresh n) text) (after_item n) true r.rest
 
 sized_item : (called start text : List ℕ) (v size stored : ℤ) → IsName called → IsNumber start v → AreSizes text size stored → SomeItem ((called ++ start) ++ text)
-sized_item called start text v size stored is_name number are =
-    (record { name = called ++ replicate (4 - length called) 0; start = v; size = size; coord = replicate 4 0; stored = stored }, record {
-      name = called;
-      start = start;
-      sizes = text;
-      whole = append_assoc called start text;
-      is_name = is_name;
-      is_start = number;
-      are_sizes = are;
-      padded = refl;
-      coord = refl;
-    })
+sized_item called start text v size stored is_name number are = (
+  record { name = called ++ replicate (4 - length called) 0; start = v; size = size; coord = replicate 4 0; stored = stored },
+  record {
+    name = called;
+    start = start;
+    sizes = text;
+    whole = append_assoc called start text;
+    is_name = is_name;
+    is_start = number;
+    are_sizes = are;
+    padded = refl;
+    coord = refl;
+  },
+)
 
 item_out : (n before : ℕ) (bytes : List ℕ) → Out (ItemRuns n bytes) (Fault SomeItem before (fresh n) bytes) (item_at bytes)
 unfolding item_at
 item_out n before bytes = out_bind (NameRuns n before bytes) (Fault SomeItem before (fresh n) bytes) (ItemRuns n bytes) (Fault SomeItem before (fresh n) bytes) (name_at bytes) _ (name_out n before bytes)
     (λ called g. out_bind (NumberRuns n 2 (run (fresh n) g.name) called.rest) (Fault SomeNumber (last_or before g.name) (run (fresh n) g.name) called.rest) (ItemRuns n bytes) (Fault SomeItem before (fresh n) bytes)
-      (number_at called.rest) _ (number_out (last_or before g.name) n 2 (run (fresh n) g.name) called.rest g.begins g.acts)
-      (λ start h. out_bind (SizesRuns n (run (run (fresh n) g.name) h.number) start.rest) (Fault SomeSizes (last_or (last_or before g.name) h.number) (run (run (fresh n) g.name) h.number) start.rest)
-        (ItemRuns n bytes) (Fault SomeItem before (fresh n) bytes)
-        (sizes_at start.rest) _ (sizes_out n (last_or (last_or before g.name) h.number) (run (run (fresh n) g.name) h.number) start.rest h.acts)
-        (λ sizes i. good called start sizes g h i) (λ left f. in_sizes called start left g h f))
-      (λ left f. in_start called left g f))
+    (number_at called.rest) _ (number_out (last_or before g.name) n 2 (run (fresh n) g.name) called.rest g.begins g.acts)
+    (λ start h. out_bind (SizesRuns n (run (run (fresh n) g.name) h.number) start.rest) (Fault SomeSizes (last_or (last_or before g.name) h.number) (run (run (fresh n) g.name) h.number) start.rest)
+    (ItemRuns n bytes) (Fault SomeItem before (fresh n) bytes)
+    (sizes_at start.rest) _ (sizes_out n (last_or (last_or before g.name) h.number) (run (run (fresh n) g.name) h.number) start.rest h.acts)
+    (λ sizes i. good called start sizes g h i) (λ left f. in_sizes called start left g h f))
+    (λ left f. in_start called left g f))
     (λ left f. f)
   where
     good : (called : Read (List ℕ)) (start : Read ℤ) (sizes : Read Sizes) (g : NameRuns n before bytes called) (h : NumberRuns n 2 (run (fresh n) g.name) called.rest start)
@@ -624,10 +629,10 @@ items_with : (n before : ℕ) (bytes : List ℕ)
     → Out Any (ItemsFault n before bytes) (items_at (suc n) bytes)
 items_with n before bytes comma = subst (Out Any (ItemsFault n before bytes)) (sym (items_step n bytes))
     (out_bind (ItemRuns n bytes) (Fault SomeItem before (fresh n) bytes) Any (ItemsFault n before bytes) (item_at bytes) (λ item. behind (items_at n) item.it item.rest) (item_out n before bytes)
-      (λ item i. out_if Any (ItemsFault n before bytes) (length item.rest == 0) (Ok _) _ (λ t. tt)
-        (λ t. out_if Any (ItemsFault n before bytes) (begins_with 44 item.rest) _ (Err (length item.rest)) (λ u. comma item i u)
-          (λ u. behind_item n before (length item.rest) bytes item i refl (no_comma n (run (fresh n) i.text) item.rest t u i.acts))))
-      (λ left f. later SomeItem (SomeItems (suc n)) [] before (fresh n) before (fresh n) bytes bytes left refl refl refl (λ text q. (q.0 ∷ [], q.1, omega arith)) f))
+    (λ item i. out_if Any (ItemsFault n before bytes) (length item.rest == 0) (Ok _) _ (λ t. tt)
+    (λ t. out_if Any (ItemsFault n before bytes) (begins_with 44 item.rest) _ (Err (length item.rest)) (λ u. comma item i u)
+    (λ u. behind_item n before (length item.rest) bytes item i refl (no_comma n (run (fresh n) i.text) item.rest t u i.acts))))
+    (λ left f. later SomeItem (SomeItems (suc n)) [] before (fresh n) before (fresh n) bytes bytes left refl refl refl (λ text q. (q.0 ∷ [], q.1, omega arith)) f))
 
 items_last : (before : ℕ) (bytes : List ℕ) (item : Read Dim) → ItemRuns 0 bytes item → begins_with 44 item.rest ≡ true → Out Any (ItemsFault 0 before bytes) (items_at 0 (drop 1 item.rest) >>= λ ds. Ok (item.it ∷ ds))
 items_last before bytes item i u =
@@ -635,7 +640,7 @@ items_last before bytes item i u =
     let long : length item.rest ≡ suc (length (drop 1 item.rest)) = ap length all ∙ omega arith in
     let stuck : IsStuck (run (fresh 0) i.text) item.rest = subst (IsStuck (run (fresh 0) i.text)) (sym all) (subst (Acts (run (fresh 0) i.text) (after_item 0) true) all i.acts) in
     subst (λ r. Out Any (ItemsFault 0 before bytes) (r >>= λ ds. Ok (item.it ∷ ds))) (sym (no_items (drop 1 item.rest)))
-      (behind_item 0 before (suc (length (drop 1 item.rest))) bytes item i long stuck)
+    (behind_item 0 before (suc (length (drop 1 item.rest))) bytes item i long stuck)
 
 items_next : (n before : ℕ) (bytes : List ℕ) → ((rest : List ℕ) → Out Any (ItemsFault n 44 rest) (items_at (suc n) rest))
     → (item : Read Dim) → ItemRuns (suc n) bytes item → begins_with 44 item.rest ≡ true → Out Any (ItemsFault (suc n) before bytes) (items_at (suc n) (drop 1 item.rest) >>= λ ds. Ok (item.it ∷ ds))
@@ -644,10 +649,10 @@ items_next n before bytes further item i u =
     let all : item.rest ≡ 44 ∷ ds = front_is 44 item.rest u in
     let goes : arrow (run (fresh (suc n)) i.text) 44 ≡ fresh n = subst (Acts (run (fresh (suc n)) i.text) (after_item (suc n)) true) all i.acts in
     out_bind Any (ItemsFault n 44 ds) Any (ItemsFault (suc n) before bytes) (items_at (suc n) ds) (λ more. Ok (item.it ∷ more)) (further ds) (λ more v. tt)
-      (λ left f. later (SomeItems (suc n)) (SomeItems (suc (suc n))) (i.text ++ 44 ∷ []) before (fresh (suc n)) 44 (fresh n) ds bytes left
-        (last_on before i.text (44 ∷ [])) (run_on (fresh (suc n)) i.text (44 ∷ []) ∙ goes)
-        (i.whole ∙ (ap (λ l. i.text ++ l) all ∙ sym (append_assoc i.text (44 ∷ []) ds)))
-        (λ text q. joined (suc n) item.it i.text text q.0 i.is_item q.1 q.2) f)
+    (λ left f. later (SomeItems (suc n)) (SomeItems (suc (suc n))) (i.text ++ 44 ∷ []) before (fresh (suc n)) 44 (fresh n) ds bytes left
+    (last_on before i.text (44 ∷ [])) (run_on (fresh (suc n)) i.text (44 ∷ []) ∙ goes)
+    (i.whole ∙ (ap (λ l. i.text ++ l) all ∙ sym (append_assoc i.text (44 ∷ []) ds)))
+    (λ text q. joined (suc n) item.it i.text text q.0 i.is_item q.1 q.2) f)
 
 items_out : (n before : ℕ) (bytes : List ℕ) → Out Any (ItemsFault n before bytes) (items_at (suc n) bytes)
 items_out zero before bytes = items_with zero before bytes (items_last before bytes)
@@ -698,9 +703,9 @@ unfinished_end : (n left : ℕ) (bytes front : List ℕ) → bytes ≡ front ++ 
 unfinished_end n left bytes front whole none stuck = record {
   none = sym none;
   unfinished = λ ds items few.
-    let alive : final (run (fresh n) bytes) ≡ true = items_run n bytes ds items few in
-    let same : final (run (fresh n) bytes) ≡ final (run (fresh n) front) = ap (λ l. final (run (fresh n) l)) (whole ∙ append-nil front) in
-    cc;
+      let alive : final (run (fresh n) bytes) ≡ true = items_run n bytes ds items few in
+      let same : final (run (fresh n) bytes) ≡ final (run (fresh n) front) = ap (λ l. final (run (fresh n) l)) (whole ∙ append-nil front) in
+      cc;
 }
 
 stuck_byte : (n left : ℕ) (bytes front : List ℕ) (c : ℕ) (back : List ℕ) → bytes ≡ front ++ c ∷ back → length (c ∷ back) ≡ left → length front ≡ length bytes - left → arrow (run (fresh n) front) c ≡ dead → CantGoOn n left bytes

@@ -199,7 +199,7 @@ sizes_run n size stored s text ended (inr (inl one)) =
 sizes_run n size stored s text ended (inr (inr two)) =
     let first : IsEnded n 1 (run s (58 ∷ two.0)) = colon_run n 1 size s two.0 ended two.3 in
     subst (λ l. IsItemEnd n (run s l)) (sym two.2)
-      (subst (IsItemEnd n) (sym (run_on s (58 ∷ two.0) (58 ∷ two.1))) (ended_item n 0 _ (colon_run n 0 stored _ two.1 first two.4)))
+    (subst (IsItemEnd n) (sym (run_on s (58 ∷ two.0) (58 ∷ two.1))) (ended_item n 0 _ (colon_run n 0 stored _ two.1 first two.4)))
 
 item_run : (n : ℕ) (d : Dim) (text : List ℕ) → IsItem text d → IsItemEnd n (run (fresh n) text)
 item_run n d text is =

@@ -301,7 +301,7 @@ pub no_items : (bytes : List ℕ) → items_at 0 bytes ≡ Err (suc (length byte
 unfolding items_at
 no_items bytes = refl
 
-pub no_bytes : (bytes : List ℕ) → (length bytes == 0) ≡ true → bytes ≡ []
+no_bytes : (bytes : List ℕ) → (length bytes == 0) ≡ true → bytes ≡ []
 no_bytes [] e = refl
 no_bytes (b ∷ bytes) e = absurd (let none : length (b ∷ bytes) ≡ 0 = eqb-true _ _ e in omega arith)
 
