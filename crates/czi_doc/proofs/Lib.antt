@@ -1,3 +1,12 @@
 pub mod Appended
 pub mod Ordered
 pub mod Equal
+pub mod Prefixes
+pub mod InTurn
+pub mod Spelled
+pub mod ReadAgain
+pub mod InRange
+pub mod Rails
+pub mod Breaks
+pub mod Begun
+pub mod FaultFirst

@@ -2,13 +2,17 @@
 #![tactic(auto)]
 
 mod dimensions;
+mod fault;
 mod items;
 mod keys;
+mod reading;
 mod writing;
 
 pub use dimensions::{Dim, Dims, ItemFault};
+pub use fault::TextFault;
 pub use items::{AttInfo, Bytes, EntryInfo};
 pub use keys::{Key, equal_keys};
+pub use reading::read_dims;
 pub use writing::write_dims;
 
 #[cfg(test)]

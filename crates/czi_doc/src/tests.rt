@@ -1,4 +1,7 @@
-use crate::{AttInfo, Bytes, Dim, Dims, EntryInfo, ItemFault, Key, equal_keys, write_dims};
+use crate::{
+    AttInfo, Bytes, Dim, Dims, EntryInfo, ItemFault, Key, TextFault, equal_keys, read_dims,
+    write_dims,
+};
 use std::alloc::Global;
 use std::test::Fail;
 
@@ -93,5 +96,50 @@ fn copies(rt: HostRuntime) -> Result<(), Fail> {
     };
     let copy = att;
     assert_eq!(rt; copy, att);
+    Ok(())
+}
+
+#[test]
+fn texts_that_are_read(rt: HostRuntime) -> Result<(), Fail> {
+    let texts = [
+        ("C0,X0:4,Y0:2", "C0:1:1,X0:4:4,Y0:2:2"),
+        (
+            "ABCD-2147483648:2147483647:0",
+            "ABCD-2147483648:2147483647:2147483647",
+        ),
+        ("S7", "S7:1:1"),
+        ("M-5:-3:-1", "M-5:-3:-1"),
+    ];
+    for (text, written) in texts {
+        let dims = read_dims(rt.alloc(), text.as_bytes()).map_err(|_| "refused")?;
+        let mut out = vec![in rt.alloc()]?;
+        write_dims(&dims, &mut out)?;
+        assert_eq!(rt; out.as_slice(), written.as_bytes());
+    }
+    Ok(())
+}
+
+#[test]
+fn places_of_faults(rt: HostRuntime) -> Result<(), Fail> {
+    let texts = [
+        ("", 0),
+        ("C", 1),
+        ("c0", 0),
+        ("ABCDE0", 4),
+        ("C-", 2),
+        ("C-0", 2),
+        ("C00", 2),
+        ("C0,", 3),
+        ("C0:1:1:1", 6),
+        ("C0:", 3),
+        ("C2147483648", 1),
+        ("C0:-2147483649,!", 3),
+        ("C0 ", 2),
+        ("X0,Y99999999999999999999999", 4),
+    ];
+    for (text, place) in texts {
+        let fault = read_dims(rt.alloc(), text.as_bytes()).err().ok_or("read")?;
+        assert_eq!(rt; fault, TextFault::Bad(place), "{text}");
+    }
     Ok(())
 }
