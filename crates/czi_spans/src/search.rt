@@ -1,6 +1,6 @@
 //! Search by halves in spans that stand one behind another.
 
-ghost use Rattle.std.specs.Prelude.{◌≡◌, ◌==◌, map};
+ghost use Rattle.std.specs.Prelude.{◌≡◌, ◌==◌, ◌<◌, map, length, IfSome};
 ghost use Rattle.std.specs.List.{list_any, position};
 ghost use Rattle.czi_format.specs.Span.{meets};
 ghost use Rattle.czi_num.specs.Span.{span_of};
@@ -20,7 +20,8 @@ pub fn has_place(spans: &[Span], at: u64) -> bool
 /// The index of the item whose span begins at a place.
 pub fn find_place<T>(items: &[(Span, T)], at: u64) -> Option<usize>
     requires { AreApart 0 (map first_of items.now) }
-    ensures { result ≡ position (λ p. p.0.at == at) items.now }
+    ensures position { result ≡ position (λ p. p.0.at == at) items.now }
+    ensures inside { IfSome result (λ i. i < length items.now) }
 {
     let i = items.partition_point(|item| item.0.at < at);
     if i < items.len() && items[i].0.at == at {

@@ -9,8 +9,8 @@ use Rattle.czi_spans.proofs.Apart.{places_parted, place_before, place_missed, po
 use Rattle.czi_spans.proofs.search.find_place.Goals as goal
 use Rattle.czi_spans.proofs.search.find_place.Goals.{else-i-items-via-then-i-items+else-items-i, else-i-items-via-else-i-items}
 
-pub returns-then-items-i : goal.returns-then-items-i
-returns-then-items-i g c =
+pub returns-then-items-i-clause-position : goal.returns-then-items-i-clause-position
+returns-then-items-i-clause-position g c =
     let parted : IsPartitionedBy (λ (p : CodeSpan × g.row.T.Denot). nat_lt p.0.at c.args.at) c.args.items.now = places_parted first_of c.args.at c.args.items.now c.requires in
     let point = IsPartitionPoint-from_clause (λ (p : CodeSpan × g.row.T.Denot). nat_lt p.0.at c.args.at) _ _ c.partition_point-i.ensures.partitioned parted (λ a r q k. search rules) in
     let inside : c.partition_point-i.result < length c.args.items.now = omega (arith, c.if-i-items.true) in
@@ -18,8 +18,8 @@ returns-then-items-i g c =
     (λ k l. place_before first_of c.args.at c.args.items.now c.partition_point-i.result (λ j e m. point.0 j e (omega arith) m) k c.index-items-i.result l)
     (eq-eqb _ _ c.if-items-i.true)
 
-pub returns-else-i-items : goal.returns-else-i-items
-returns-else-i-items g c =
+pub returns-else-i-items-clause-position : goal.returns-else-i-items-clause-position
+returns-else-i-items-clause-position g c =
     let parted : IsPartitionedBy (λ (p : CodeSpan × g.row.T.Denot). nat_lt p.0.at c.args.at) c.args.items.now = places_parted first_of c.args.at c.args.items.now c.requires in
     let point = IsPartitionPoint-from_clause (λ (p : CodeSpan × g.row.T.Denot). nat_lt p.0.at c.args.at) _ _ c.partition_point-i.ensures.partitioned parted (λ a r q k. search rules) in
     position_miss (λ (p : CodeSpan × g.row.T.Denot). p.0.at == c.args.at) c.args.items.now (λ k d l.
