@@ -1,11 +1,11 @@
 -- A list in order with the elements of another one is that one sorted.
-use Rattle.std.proofs.Common.{◌≡◌, ℕ, ◌+◌, ◌≤◌, List, [], ◌∷◌, Bool, true, false, cond, ◌&&◌, ◌||◌, refl, ap, sym, ◌∙◌, subst, arith, inl, inr, if◌then◌else◌}
+use Rattle.std.proofs.Common.{◌≡◌, ℕ, zero, suc, ◌+◌, ◌≤◌, List, [], ◌∷◌, Bool, true, false, cond, ◌&&◌, ◌||◌, refl, ap, sym, ◌∙◌, subst, arith, inl, inr, if◌then◌else◌}
 use Rattle.std.specs.Bool.{⊤}
-use Rattle.std.specs.List.{AllByRecursion, list_any}
+use Rattle.std.specs.List.{All, AllByRecursion, list_any}
 use Rattle.std.specs.List.Sorted.{IsPermutation}
 use Rattle.std.proofs.lemmas.Bool.{cases_Bool, and_parts}
 use Rattle.std.proofs.lemmas.List.Recursion.{is_sum_by}
-use Rattle.std.proofs.lemmas.List.Sorted.{sum_by-IsPermutation}
+use Rattle.std.proofs.lemmas.List.Sorted.{All-permutation, sum_by-IsPermutation}
 use Rattle.czi_format.specs.Span.{inserted, sorted}
 
 -- a total order
@@ -38,6 +38,19 @@ all_inserted le P x (y ∷ ys) px all =
 pub all_sorted : {X : Type 0} (le : X → X → Bool) (P : X → Type 0) (xs : List X) → AllByRecursion P xs → AllByRecursion P (sorted le xs)
 all_sorted le P [] all = tt
 all_sorted le P (x ∷ xs) all = all_inserted le P x (sorted le xs) all.0 (all_sorted le P xs all.1)
+
+at_each : {X : Type 0} (P : X → Type 0) (xs : List X) → AllByRecursion P xs → All P xs
+at_each P [] all k d h = absurd (omega arith)
+at_each P (x ∷ xs) all zero d h = all.0
+at_each P (x ∷ xs) all (suc k) d h = at_each P xs all.1 k d (omega arith)
+
+from_each : {X : Type 0} (P : X → Type 0) (xs : List X) → All P xs → AllByRecursion P xs
+from_each P [] all = tt
+from_each P (x ∷ xs) all = (all 0 x (omega arith), from_each P xs (λ k d h. all (suc k) d (omega arith)))
+
+-- what holds of each holds of each in another order
+pub all_moved : {X : Type 0} (P : X → Type 0) (xs ys : List X) → IsPermutation xs ys → AllByRecursion P xs → AllByRecursion P ys
+all_moved P xs ys moved all = from_each P ys (All-permutation P xs ys moved (at_each P xs all))
 
 swap_or : (a b c : Bool) → (a || (b || c)) ≡ (b || (a || c))
 swap_or true true c = refl
@@ -110,9 +123,9 @@ module _ {X : Type 0} {le : X → X → Bool} (order : IsOrder le) where
       let forth : le x y ≡ true = before x y (x ∷ xs) (itself x, up.0) (subst (λ n. 1 ≤ n) (sym (same y)) (counts_itself y ys)) in
       let heads : x ≡ y = order.antisymmetric x y forth back in
       let tails : xs ≡ ys = same_elements xs ys up.1 vp.1 (λ z.
-          let times : X → ℕ = λ w. cond (le z w && le w z) 1 0 in
-          let one : times x ≡ times y = ap times heads in
-          omega (arith, same z, one)) in
+      let times : X → ℕ = λ w. cond (le z w && le w z) 1 0 in
+      let one : times x ≡ times y = ap times heads in
+      omega (arith, same z, one)) in
       λ i. heads i ∷ tails i
 
   -- a list in order with the same elements is the sorted list

@@ -8,8 +8,6 @@ use Rattle.std.proofs.lemmas.Bool.{cases_Bool, and_parts, leb-true, le-leb, lt-l
 use Rattle.std.proofs.lemmas.Bool.Decides.{nat_tests}
 use Rattle.std.proofs.lemmas.List.Sorted.{IsPermutation-map}
 use Rattle.czi_format.specs.Span.{Span, span_le, sorted}
-use Rattle.czi_num.specs.declared.span.Span.{Span as CodeSpan}
-use Rattle.czi_num.specs.Span.{span_of}
 use Rattle.czi_spans.proofs.Sorting.{IsOrder, Ascending, sorted_is}
 
 -- what the order of two spans means
@@ -63,29 +61,30 @@ not_less a b Greater p places lens e = in_order a b (inl places)
 abbrev key_cmp : ℕ × ℕ → ℕ × ℕ → Ordering
 key_cmp x y = ordering_then (nat_cmp x.0 y.0) (nat_cmp x.1 y.1)
 
-abbrev pub key : CodeSpan → ℕ × ℕ
-key s = (s.at, s.len)
+abbrev pub key : {X : Type 0} → (X → Span) → X → ℕ × ℕ
+key f x = ((f x).at, (f x).len)
 
 all_from : (a b : Span) (xs : List Span) → span_le a b ≡ true → AllByRecursion (λ t. span_le b t ≡ true) xs → AllByRecursion (λ t. span_le a t ≡ true) xs
 all_from a b [] le all = tt
 all_from a b (x ∷ xs) le all = (le_transitive a b x le all.0, all_from a b xs le all.1)
 
--- a list whose neighbours are in order
-risen : (xs : List CodeSpan) → ((k : ℕ) (d : CodeSpan) → suc k < length xs → span_le (span_of (get_or xs k d)) (span_of (get_or xs (suc k) d)) ≡ true) → Ascending span_le (map span_of xs)
-risen [] up = tt
-risen (a ∷ []) up = (tt, tt)
-risen (a ∷ b ∷ rest) up =
-    let more = risen (b ∷ rest) (λ k d h. up (suc k) d (omega arith)) in
-    let here : span_le (span_of a) (span_of b) ≡ true = up 0 a (omega arith) in
-    ((here, all_from (span_of a) (span_of b) (map span_of rest) here more.0), more)
+module _ {X : Type 0} (f : X → Span) where
+  -- a list whose neighbours are in order
+  risen : (xs : List X) → ((k : ℕ) (d : X) → suc k < length xs → span_le (f (get_or xs k d)) (f (get_or xs (suc k) d)) ≡ true) → Ascending span_le (map f xs)
+  risen [] up = tt
+  risen (a ∷ []) up = (tt, tt)
+  risen (a ∷ b ∷ rest) up =
+      let more = risen (b ∷ rest) (λ k d h. up (suc k) d (omega arith)) in
+      let here : span_le (f a) (f b) ≡ true = up 0 a (omega arith) in
+      ((here, all_from (f a) (f b) (map f rest) here more.0), more)
 
--- what a sort by place and length leaves is the sorted list
-pub sorted_by_key : (xs ys : List CodeSpan) → IsPermutation xs ys → IsSortedByKey key key_cmp ys → map span_of ys ≡ sorted span_le (map span_of xs)
-sorted_by_key xs ys moved up =
-    sorted_is span_order (map span_of xs) (map span_of ys) (IsPermutation-map span_of xs ys moved) (risen ys (λ k d h.
-    let next : k + 1 ≡ suc k = omega arith in
-    let neighbours : is_lt (key_cmp (key (get_or ys (k + 1) d)) (key (get_or ys k d))) ≡ false = up k d (omega arith) (omega arith) in
-    let a : CodeSpan = get_or ys k d in
-    let b : CodeSpan = get_or ys (suc k) d in
-    not_less (span_of a) (span_of b) (nat_cmp b.at a.at) (nat_cmp b.len a.len) (compared b.at a.at) (compared b.len a.len)
-    (subst (λ n. is_lt (key_cmp (key (get_or ys n d)) (key (get_or ys k d))) ≡ false) next neighbours)))
+  -- what a sort by place and length leaves is the sorted list
+  pub sorted_by_key : (xs ys : List X) → IsPermutation xs ys → IsSortedByKey (key f) key_cmp ys → map f ys ≡ sorted span_le (map f xs)
+  sorted_by_key xs ys moved up =
+      sorted_is span_order (map f xs) (map f ys) (IsPermutation-map f xs ys moved) (risen ys (λ k d h.
+      let next : k + 1 ≡ suc k = omega arith in
+      let neighbours : is_lt (key_cmp (key f (get_or ys (k + 1) d)) (key f (get_or ys k d))) ≡ false = up k d (omega arith) (omega arith) in
+      let a : Span = f (get_or ys k d) in
+      let b : Span = f (get_or ys (suc k) d) in
+      not_less a b (nat_cmp b.at a.at) (nat_cmp b.len a.len) (compared b.at a.at) (compared b.len a.len)
+      (subst (λ n. is_lt (key_cmp (key f (get_or ys n d)) (key f (get_or ys k d))) ≡ false) next neighbours)))

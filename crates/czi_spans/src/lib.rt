@@ -6,6 +6,8 @@
 mod order;
 mod search;
 
-pub use order::{first_meeting, sort_spans};
+pub use order::{first_meeting, sort_items, sort_spans};
 pub use search::{find_place, has_place, meets_any};
 
+#[cfg(test)]
+mod tests;

@@ -1,5 +1,5 @@
 -- Segments that stand in the front of an image: read, or known.
-use Rattle.std.proofs.Common.{◌≡◌, ℕ, zero, suc, ◌+◌, ◌<◌, ◌≤◌, ◌==◌, List, [], ◌∷◌, length, get_or, take, drop, min, Option, Some, None, refl, sym, ap, ◌∙◌, subst, arith, zero-add}
+use Rattle.std.proofs.Common.{◌≡◌, ℕ, zero, suc, ◌+◌, ◌<◌, ◌≤◌, ◌==◌, List, [], ◌∷◌, length, get_or, take, drop, Option, Some, None, sym, ap, ◌∙◌, subst, arith, zero-add}
 use Rattle.std.specs.Prelude.{IfSome}
 use Rattle.std.specs.List.{AllByRecursion, position}
 use Rattle.std.proofs.lemmas.Bool.{eqb-true}
@@ -7,7 +7,7 @@ use Rattle.std.proofs.lemmas.List.{length-take}
 use Rattle.std.proofs.lemmas.List.Quantifiers.{position-Some}
 use Rattle.std.proofs.lemmas.Option.{same_Some}
 use Rattle.czi_format.specs.Bytes.{bytes_at}
-use Rattle.czi_format.specs.Segment.{Segment, segment_at}
+use Rattle.czi_format.specs.Segment.{segment_at}
 use Rattle.czi_format.proofs.Local.{part_of_part}
 use Rattle.czi_format.proofs.Readings.{no_room}
 use Rattle.czi_num.specs.declared.span.Span.{Span as CodeSpan}

@@ -1,9 +1,9 @@
 -- Marks of the items of a walk are those of its segments.
-use Rattle.std.proofs.Common.{◌≡◌, ℕ, zero, suc, ◌+◌, ◌<◌, ◌≤◌, List, [], ◌∷◌, ◌++◌, map, length, get_or, take, Bool, true, false, cond, not, ◌&&◌, ◌||◌, ◌==◌, IsTrue, bytes_eq, filter, refl, sym, ap, ◌∙◌, subst, arith, inl, inr, append_assoc}
+use Rattle.std.proofs.Common.{◌≡◌, ℕ, zero, suc, ◌+◌, ◌<◌, ◌≤◌, List, [], ◌∷◌, ◌++◌, map, length, get_or, take, Bool, true, false, cond, not, ◌&&◌, ◌||◌, ◌==◌, IsTrue, bytes_eq, filter, refl, sym, ap, ◌∙◌, arith}
 use Rattle.std.specs.List.{AllByRecursion, list_any}
-use Rattle.std.proofs.lemmas.Bool.{cases_Bool, and_parts}
-use Rattle.std.proofs.lemmas.List.{take_more, take_all}
-use Rattle.czi_format.specs.Span.{Span, end_of, meets, is_aligned, span_le, sorted}
+use Rattle.std.proofs.lemmas.Bool.{and_parts}
+use Rattle.std.proofs.lemmas.List.{take_more}
+use Rattle.czi_format.specs.Span.{Span, end_of, meets, is_aligned, span_le}
 use Rattle.czi_format.specs.Segment.{Segment, extent, deleted_id}
 use Rattle.czi_format.specs.Walk.{walk_end}
 use Rattle.czi_format.specs.Layout.{is_walked, is_free, is_unknown}

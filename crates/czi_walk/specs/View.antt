@@ -1,5 +1,5 @@
 -- Items of a walk: the extent of a segment with its header.
-use Rattle.std.specs.Prelude.{◌≡◌, ℕ, ◌+◌, ◌≤◌, List, length, take, map, Option, Some}
+use Rattle.std.specs.Prelude.{◌≡◌, ℕ, ◌≤◌, List, length, take, map, Option, Some}
 use Rattle.std.specs.List.{AllByRecursion}
 use Rattle.czi_format.specs.Partial.{◌>>=◌, given}
 use Rattle.czi_format.specs.Span.{end_of}
