@@ -1,4 +1,4 @@
 pub mod Segments
 mod Known
-mod Walked
+pub mod Walked
 pub mod Marked

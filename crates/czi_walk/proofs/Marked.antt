@@ -1,7 +1,8 @@
 -- Marks of the items of a walk are those of its segments.
 use Rattle.std.proofs.Common.{◌≡◌, ℕ, zero, suc, ◌+◌, ◌<◌, ◌≤◌, List, [], ◌∷◌, ◌++◌, map, length, get_or, take, Bool, true, false, cond, not, ◌&&◌, ◌||◌, ◌==◌, IsTrue, bytes_eq, filter, refl, sym, ap, ◌∙◌, arith}
+use Rattle.std.specs.Prelude.{IsFalse}
 use Rattle.std.specs.List.{AllByRecursion, list_any}
-use Rattle.std.proofs.lemmas.Bool.{and_parts}
+use Rattle.std.proofs.lemmas.Bool.{and_parts, not-true}
 use Rattle.std.proofs.lemmas.List.{take_more}
 use Rattle.czi_format.specs.Span.{Span, end_of, meets, is_aligned, span_le}
 use Rattle.czi_format.specs.Segment.{Segment, extent, deleted_id}
@@ -13,7 +14,7 @@ use Rattle.czi_seg.specs.declared.header.SegHeader.{SegHeader}
 use Rattle.czi_seg.specs.View.{id_bytes}
 use Rattle.czi_spans.specs.Apart.{AreApart, first_of}
 use Rattle.czi_spans.proofs.Sorting.{any_sorted}
-use Rattle.czi_walk.specs.View.{segment_of, HasExtent}
+use Rattle.czi_walk.specs.View.{segment_of, HasExtent, EndBy}
 use Rattle.czi_walk.specs.Marks.{AreLive, is_free_item, is_unknown_item}
 
 any_map : {X Y : Type 0} (f : X → Y) (p : Y → Bool) (xs : List X) → list_any p (map f xs) ≡ list_any (λ x. p (f x)) xs
@@ -132,3 +133,18 @@ free_aligned live (x ∷ xs) =
       | true ↦ λ e. let both = and_parts _ _ e in let one = and_parts _ _ both.0 in (one.1, rest)
       | false ↦ λ e. rest
     ]) refl
+
+pub free_clear : (live : List Span) (items : List (CodeSpan × SegHeader)) → AllByRecursion (λ s. IsFalse (list_any (meets s) live)) (map span_of (map (λ (i : CodeSpan × SegHeader). i.0) (filter (is_free_item live) items)))
+free_clear live [] = tt
+free_clear live (x ∷ xs) =
+    let rest = free_clear live xs in
+    (elim (is_free_item live x) as (λ b. is_free_item live x ≡ b → AllByRecursion (λ s. IsFalse (list_any (meets s) live)) (map span_of (map (λ (i : CodeSpan × SegHeader). i.0) (cond b (x ∷ filter (is_free_item live) xs) (filter (is_free_item live) xs))))) [
+      | true ↦ λ e. let both = and_parts _ _ e in (not-true _ both.1, rest)
+      | false ↦ λ e. rest
+    ]) refl
+
+pub free_inside : (p : CodeSpan × SegHeader → Bool) (size : ℕ) (items : List (CodeSpan × SegHeader)) → EndBy size items → AllByRecursion (λ s. end_of s ≤ size) (map span_of (map (λ (i : CodeSpan × SegHeader). i.0) (filter p items)))
+free_inside p size [] ends = tt
+free_inside p size (x ∷ xs) ends =
+    let rest = free_inside p size xs ends.1 in
+    elim (p x) as (λ b. AllByRecursion (λ s. end_of s ≤ size) (map span_of (map (λ (i : CodeSpan × SegHeader). i.0) (cond b (x ∷ filter p xs) (filter p xs))))) [ true ↦ (ends.0, rest) | false ↦ rest ]

@@ -1,10 +1,11 @@
 -- The walk, from segment to segment.
-use Rattle.std.proofs.Common.{◌≡◌, ℕ, ◌+◌, ◌≤◌, List, [], ◌∷◌, ◌++◌, map, take, Some, None, option_map, refl, sym, ap, ◌∙◌, subst, arith, append-nil}
+use Rattle.std.proofs.Common.{◌≡◌, ℕ, ◌+◌, ◌≤◌, List, [], ◌∷◌, ◌++◌, map, take, Some, None, option_map, refl, sym, ap, ◌∙◌, subst, arith, append-nil, ⊎_elim}
 use Rattle.std.specs.List.{AllByRecursion}
 use Rattle.std.specs.Option.{ForSome}
-use Rattle.czi_format.specs.Span.{Span, end_of}
-use Rattle.czi_format.specs.Segment.{Segment, extent}
-use Rattle.czi_format.specs.Walk.{next_from, WalksFrom, IsWalk}
+use Rattle.czi_format.specs.Span.{Span, end_of, round32}
+use Rattle.czi_format.specs.Segment.{Segment, extent, segment_at}
+use Rattle.czi_format.proofs.Readings.{bind_some, given_some, option_or_some, segment_stands}
+use Rattle.czi_format.specs.Walk.{stands_at, next_from, WalksFrom, IsWalk}
 use Rattle.czi_num.specs.declared.span.Span.{Span as CodeSpan}
 use Rattle.czi_num.specs.Span.{span_of}
 use Rattle.czi_rig.specs.declared.file.File.{File}
@@ -91,3 +92,18 @@ module _ {D : Type 0} (rig : Ghosts D) where
 
   pub walked_row : {first now : D} {size place : ℕ} {found : List (CodeSpan × SegHeader)} → Walked rig first now size place found → IsRow found
   walked_row {found = found} walked = record { extents = walked.extents; apart = subst (AreApart 0) (append-nil (map first_of found)) (walked.apart [] tt) }
+
+named_stands : (image : List ℕ) (at : ℕ) (s : Segment) → stands_at image at ≡ Some s → segment_at image s.at ≡ Some s
+unfolding stands_at
+named_stands image at s found =
+    let b = bind_some (segment_at image at) _ s found in
+    let g = given_some _ b.0 s b.2 in
+    let here : segment_at image at ≡ Some s = b.1 ∙ ap Some g.1 in
+    subst (λ (p : ℕ). segment_at image p ≡ Some s) (sym (segment_stands image at s here).place) here
+
+-- each segment of a walk stands in the image
+pub walk_stands : (image : List ℕ) (place : ℕ) (items : List (CodeSpan × SegHeader)) → WalksFrom image place (map segment_of items) → AllByRecursion (λ (i : CodeSpan × SegHeader). segment_at image i.0.at ≡ Some (segment_of i)) items
+walk_stands image place [] walks = tt
+walk_stands image place (x ∷ xs) walks =
+    (⊎_elim (named_stands image place (segment_of x)) (named_stands image (round32 place) (segment_of x)) (option_or_some (stands_at image place) (stands_at image (round32 place)) (segment_of x) walks.0),
+    walk_stands image (end_of (extent (segment_of x))) xs walks.1)

@@ -14,3 +14,6 @@ mod walking;
 pub use fault::WalkFault;
 pub use marks::{count_unknown, deleted_extents, is_walked, walk_end};
 pub use walking::{walk, walk_known};
+
+#[cfg(test)]
+mod tests;

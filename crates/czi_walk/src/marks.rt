@@ -1,15 +1,15 @@
 //! What a walk shows beside the live segments.
 
-ghost use Rattle.std.specs.Prelude.{◌≡◌, ◌<◌, List, map, filter, length, IfOk, IsTrue, not, bytes_eq};
-ghost use Rattle.std.specs.List.{AllByRecursion};
-ghost use Rattle.czi_format.specs.Span.{is_aligned};
+ghost use Rattle.std.specs.Prelude.{◌≡◌, ℕ, ◌≤◌, List, map, filter, length, IfOk, IsTrue, IsFalse, bytes_eq};
+ghost use Rattle.std.specs.List.{AllByRecursion, list_any};
+ghost use Rattle.czi_format.specs.Span.{end_of, is_aligned, meets};
 ghost use Rattle.czi_format.specs.Segment.{Segment, extent, deleted_id};
 ghost use Rattle.czi_format.specs.Walk.{walk_end};
 ghost use Rattle.czi_format.specs.Layout.{is_walked, is_free, is_unknown};
 ghost use Rattle.czi_num.specs.Span.{span_of};
 ghost use Rattle.czi_seg.specs.View.{id_bytes};
 ghost use Rattle.czi_spans.specs.Apart.{AreApart, first_of};
-ghost use Rattle.czi_walk.specs.View.{segment_of, IsRow, HasExtent};
+ghost use Rattle.czi_walk.specs.View.{segment_of, IsRow, HasExtent, EndBy};
 ghost use Rattle.czi_walk.specs.Marks.{AreLive, is_free_item, is_unknown_item};
 
 use czi_num::Span;
@@ -30,7 +30,8 @@ pub fn is_walked(walk: &[(Span, SegHeader)], at: u64) -> bool
 /// Where a walk ends: at the end of its last segment, or at 0.
 pub fn walk_end(walk: &[(Span, SegHeader)]) -> u64
     requires { AllByRecursion HasExtent walk.now }
-    ensures { result ≡ walk_end 0 (map segment_of walk.now) }
+    ensures value { result ≡ walk_end 0 (map segment_of walk.now) }
+    ensures inside { (size : ℕ) → EndBy size walk.now → result ≤ size }
 {
     if walk.is_empty() {
         return 0;
@@ -79,6 +80,8 @@ pub fn deleted_extents(
         → IfOk result (λ v. map span_of v.items ≡ map extent (filter (is_free segments) (map segment_of walk.now))) }
     ensures apart { IfOk result (λ v. AreApart 0 (map span_of v.items)) }
     ensures aligned { IfOk result (λ v. AllByRecursion (λ s. IsTrue (is_aligned s)) (map span_of v.items)) }
+    ensures clear { IfOk result (λ v. AllByRecursion (λ s. IsFalse (list_any (meets s) (map span_of live.now))) (map span_of v.items)) }
+    ensures inside { (size : ℕ) → EndBy size walk.now → IfOk result (λ v. AllByRecursion (λ s. end_of s ≤ size) (map span_of v.items)) }
 {
     let mut extents = Vec::new(alloc);
     for item in walk {
