@@ -1,7 +1,8 @@
 -- The walk, from segment to segment.
-use Rattle.std.proofs.Common.{◌≡◌, ℕ, ◌+◌, ◌≤◌, List, [], ◌∷◌, ◌++◌, map, take, Some, None, option_map, refl, sym, ap, ◌∙◌, subst, arith, append-nil, ⊎_elim}
+use Rattle.std.proofs.Common.{◌≡◌, ℕ, ◌+◌, ◌≤◌, List, [], ◌∷◌, ◌++◌, length, map, take, Some, None, option_map, refl, sym, ap, ◌∙◌, subst, arith, append-nil, ⊎_elim}
 use Rattle.std.specs.List.{AllByRecursion}
 use Rattle.std.specs.Option.{ForSome}
+use Rattle.std.proofs.lemmas.Option.{same_Some}
 use Rattle.czi_format.specs.Span.{Span, end_of, round32}
 use Rattle.czi_format.specs.Segment.{Segment, extent, segment_at}
 use Rattle.czi_format.proofs.Readings.{bind_some, given_some, option_or_some, segment_stands}
@@ -104,6 +105,15 @@ named_stands image at s found =
 -- each segment of a walk stands in the image
 pub walk_stands : (image : List ℕ) (place : ℕ) (items : List (CodeSpan × SegHeader)) → WalksFrom image place (map segment_of items) → AllByRecursion (λ (i : CodeSpan × SegHeader). segment_at image i.0.at ≡ Some (segment_of i)) items
 walk_stands image place [] walks = tt
-walk_stands image place (x ∷ xs) walks =
-    (⊎_elim (named_stands image place (segment_of x)) (named_stands image (round32 place) (segment_of x)) (option_or_some (stands_at image place) (stands_at image (round32 place)) (segment_of x) walks.0),
-    walk_stands image (end_of (extent (segment_of x))) xs walks.1)
+walk_stands image place (x ∷ xs) walks = (
+  ⊎_elim (named_stands image place (segment_of x)) (named_stands image (round32 place) (segment_of x)) (option_or_some (stands_at image place) (stands_at image (round32 place)) (segment_of x) walks.0),
+  walk_stands image (end_of (extent (segment_of x))) xs walks.1,
+)
+
+-- what was walked is known
+pub knows_walk : (s t : State) (content image : List ℕ) (items : List (CodeSpan × SegHeader)) → SameAll s t → seen_of s Image ≡ Some content → seen_of t Image ≡ Some image
+    → ForSome (seen_of s Image) (λ image. IsWalk (take (length content) image) (map segment_of items)) → Knows (length content) image items
+knows_walk s t content image items same was is walk =
+    let now : seen_of s Image ≡ Some image = seen_before s t image same is in
+    let whole : content ≡ image = same_Some content image (sym was ∙ now) in
+    record { long = subst (λ (l : List ℕ). length content ≤ length l) whole (omega arith); stand = walk_stands (take (length content) image) 0 items (walk image now) }

@@ -84,28 +84,108 @@ fn the_walk_goes_from_end_to_end_or_to_the_next_multiple_of_32(
     let negative = [(0, FILE, 512), (544, DIRECTORY, 1 << 63)];
     let late = [(32, FILE, 512)];
     for row in [
-        Row { length: 800, headers: &steady, places: &[0, 544, 736], end: 800, reads: (3, 0) },
-        Row { length: 840, headers: &steady, places: &[0, 544, 736], end: 800, reads: (4, 1) },
-        Row { length: 799, headers: &steady, places: &[0, 544], end: 736, reads: (3, 1) },
-        Row { length: 736, headers: &gap, places: &[0, 544], end: 736, reads: (3, 1) },
-        Row { length: 600, headers: &close, places: &[0, 532, 564], end: 600, reads: (3, 0) },
-        Row { length: 736, headers: &low, places: &[0], end: 544, reads: (2, 1) },
-        Row { length: 736, headers: &high, places: &[0], end: 544, reads: (2, 1) },
-        Row { length: 736, headers: &split, places: &[0], end: 544, reads: (2, 1) },
-        Row { length: 736, headers: &empty, places: &[0], end: 544, reads: (2, 1) },
-        Row { length: 736, headers: &long, places: &[0], end: 544, reads: (2, 1) },
-        Row { length: 736, headers: &negative, places: &[0], end: 544, reads: (2, 1) },
-        Row { length: 736, headers: &late, places: &[], end: 0, reads: (1, 1) },
-        Row { length: 31, headers: &[], places: &[], end: 0, reads: (0, 0) },
+        Row {
+            length: 800,
+            headers: &steady,
+            places: &[0, 544, 736],
+            end: 800,
+            reads: (3, 0),
+        },
+        Row {
+            length: 840,
+            headers: &steady,
+            places: &[0, 544, 736],
+            end: 800,
+            reads: (4, 1),
+        },
+        Row {
+            length: 799,
+            headers: &steady,
+            places: &[0, 544],
+            end: 736,
+            reads: (3, 1),
+        },
+        Row {
+            length: 736,
+            headers: &gap,
+            places: &[0, 544],
+            end: 736,
+            reads: (3, 1),
+        },
+        Row {
+            length: 600,
+            headers: &close,
+            places: &[0, 532, 564],
+            end: 600,
+            reads: (3, 0),
+        },
+        Row {
+            length: 736,
+            headers: &low,
+            places: &[0],
+            end: 544,
+            reads: (2, 1),
+        },
+        Row {
+            length: 736,
+            headers: &high,
+            places: &[0],
+            end: 544,
+            reads: (2, 1),
+        },
+        Row {
+            length: 736,
+            headers: &split,
+            places: &[0],
+            end: 544,
+            reads: (2, 1),
+        },
+        Row {
+            length: 736,
+            headers: &empty,
+            places: &[0],
+            end: 544,
+            reads: (2, 1),
+        },
+        Row {
+            length: 736,
+            headers: &long,
+            places: &[0],
+            end: 544,
+            reads: (2, 1),
+        },
+        Row {
+            length: 736,
+            headers: &negative,
+            places: &[0],
+            end: 544,
+            reads: (2, 1),
+        },
+        Row {
+            length: 736,
+            headers: &late,
+            places: &[],
+            end: 0,
+            reads: (1, 1),
+        },
+        Row {
+            length: 31,
+            headers: &[],
+            places: &[],
+            end: 0,
+            reads: (0, 0),
+        },
     ] {
         let image = image_of(rt.alloc(), row.length, row.headers)?;
         let (found, reads, again) = walk_twice(&rt, rt.alloc(), &image)?;
         assert_eq!(rt; found.len(), row.places.len());
         for (item, at) in found.iter().zip(row.places.iter()) {
             assert_eq!(rt; item.0.at, *at);
-            assert!(rt; row.headers.iter().any(|h| {
-                h.0 as u64 == *at && h.1 == item.1.id.to_bytes() && h.2 == item.1.allocated
-            }));
+            assert!(rt;
+                row.headers.iter().any(|h| {
+                    h.0 as u64 == *at && h.1 == item.1.id.to_bytes() && h.2 == item.1.allocated
+                })
+            );
         }
         assert_eq!(rt; walk_end(&found), row.end);
         assert_eq!(rt; (reads, again), row.reads);
@@ -136,10 +216,20 @@ fn deleted_and_unknown_segments_are_told_apart(rt: HostRuntime) -> Result<(), Fa
     );
     assert_eq!(rt; count_unknown(&found, &live), 2);
     assert_eq!(rt; count_unknown(&found, &[]), 3);
-    for (at, walked) in [(0, true), (544, true), (768, false), (864, true), (960, false)] {
+    for (at, walked) in [
+        (0, true),
+        (544, true),
+        (768, false),
+        (864, true),
+        (960, false),
+    ] {
         assert_eq!(rt; is_walked(&found, at), walked, "at {at}");
     }
-    let header = SegHeader { id: SegId::Other(FOREIGN), allocated: 32, used: 32 };
+    let header = SegHeader {
+        id: SegId::Other(FOREIGN),
+        allocated: 32,
+        used: 32,
+    };
     assert!(rt; found.iter().any(|item| item.0.at == 672 && item.0.len == 64 && item.1 == header));
     Ok(())
 }
