@@ -2,3 +2,4 @@ pub mod Segments
 mod Known
 pub mod Walked
 pub mod Marked
+pub mod Live

@@ -9,10 +9,12 @@ mod fault;
 mod marks;
 mod name;
 mod segment;
+mod surveying;
 mod walking;
 
 pub use fault::WalkFault;
 pub use marks::{count_unknown, deleted_extents, is_walked, walk_end};
+pub use surveying::{Survey, spans_of, walk_and_mark};
 pub use walking::{walk, walk_known};
 
 #[cfg(test)]

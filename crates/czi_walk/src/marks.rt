@@ -76,12 +76,12 @@ pub fn deleted_extents(
 ) -> Result<Vec<Span>, AllocError>
     requires row { IsRow walk.now }
     requires live { AreApart 0 (map span_of live.now) }
-    ensures free { (segments : List Segment) → AreLive live.now segments
-        → IfOk result (λ v. map span_of v.items ≡ map extent (filter (is_free segments) (map segment_of walk.now))) }
+    ensures free { IfOk result (λ v. (segments : List Segment) → AreLive live.now segments
+        → map span_of v.items ≡ map extent (filter (is_free segments) (map segment_of walk.now))) }
     ensures apart { IfOk result (λ v. AreApart 0 (map span_of v.items)) }
     ensures aligned { IfOk result (λ v. AllByRecursion (λ s. IsTrue (is_aligned s)) (map span_of v.items)) }
     ensures clear { IfOk result (λ v. AllByRecursion (λ s. IsFalse (list_any (meets s) (map span_of live.now))) (map span_of v.items)) }
-    ensures inside { (size : ℕ) → EndBy size walk.now → IfOk result (λ v. AllByRecursion (λ s. end_of s ≤ size) (map span_of v.items)) }
+    ensures inside { IfOk result (λ v. (size : ℕ) → EndBy size walk.now → AllByRecursion (λ s. end_of s ≤ size) (map span_of v.items)) }
 {
     let mut extents = Vec::new(alloc);
     for item in walk {

@@ -1,7 +1,9 @@
 ghost use Rattle.std.specs.Prelude.{IfOk};
 ghost use Rattle.czi_walk.specs.View.{IsRow};
 
-use crate::{WalkFault, count_unknown, deleted_extents, is_walked, walk, walk_end, walk_known};
+use crate::{
+    WalkFault, count_unknown, deleted_extents, is_walked, spans_of, walk, walk_and_mark, walk_end, walk_known,
+};
 use czi_num::Span;
 use czi_rig::{File, MemRig};
 use czi_seg::{SegHeader, SegId};
@@ -216,6 +218,7 @@ fn deleted_and_unknown_segments_are_told_apart(rt: HostRuntime) -> Result<(), Fa
     );
     assert_eq!(rt; count_unknown(&found, &live), 2);
     assert_eq!(rt; count_unknown(&found, &[]), 3);
+    assert_eq!(rt; spans_of(rt.alloc(), &found)?.len(), 7);
     for (at, walked) in [
         (0, true),
         (544, true),
