@@ -1,12 +1,11 @@
 -- Live segments in order of place, of which no two meet.
-use Rattle.std.proofs.Common.{◌≡◌, ℕ, ◌+◌, ◌<◌, List, [], ◌∷◌, map, None, refl, sym, ap, ◌∙◌, subst, arith}
+use Rattle.std.proofs.Common.{◌≡◌, ◌+◌, ◌<◌, List, [], ◌∷◌, map, None, refl, sym, ap, ◌∙◌, subst, arith}
 use Rattle.std.specs.List.{AllByRecursion}
 use Rattle.std.specs.List.Sorted.{IsPermutation}
 use Rattle.czi_format.specs.Span.{Span, span_le, sorted}
-use Rattle.czi_format.specs.Segment.{Segment, extent}
+use Rattle.czi_format.specs.Segment.{extent}
 use Rattle.czi_format.specs.Refusals.{first_meeting}
 use Rattle.czi_num.specs.declared.span.Span.{Span as CodeSpan}
-use Rattle.czi_num.specs.Span.{span_of}
 use Rattle.czi_seg.specs.declared.header.SegHeader.{SegHeader}
 use Rattle.czi_spans.specs.Apart.{AreApart, first_of}
 use Rattle.czi_spans.proofs.Sorting.{all_moved}

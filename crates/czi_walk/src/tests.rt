@@ -2,7 +2,8 @@ ghost use Rattle.std.specs.Prelude.{IfOk};
 ghost use Rattle.czi_walk.specs.View.{IsRow};
 
 use crate::{
-    WalkFault, count_unknown, deleted_extents, is_walked, spans_of, walk, walk_and_mark, walk_end, walk_known,
+    WalkFault, count_unknown, deleted_extents, is_walked, spans_of, walk, walk_and_mark, walk_end,
+    walk_known,
 };
 use czi_num::Span;
 use czi_rig::{File, MemRig};
@@ -234,6 +235,30 @@ fn deleted_and_unknown_segments_are_told_apart(rt: HostRuntime) -> Result<(), Fa
         used: 32,
     };
     assert!(rt; found.iter().any(|item| item.0.at == 672 && item.0.len == 64 && item.1 == header));
+    Ok(())
+}
+
+#[test]
+fn without_live_segments_each_deleted_one_at_multiples_of_32_is_free(
+    rt: HostRuntime,
+) -> Result<(), Fail> {
+    let headers = [
+        (0, FILE, 512),
+        (544, DELETED, 32),
+        (608, DELETED, 20),
+        (672, DELETED, 96),
+    ];
+    let image = image_of(rt.alloc(), 800, &headers)?;
+    let mut rig = MemRig::new(rt.alloc(), &image, b"")?;
+    let length = rig.content(File::Image).len() as u64;
+    assert!(rt; length <= 1000);
+    let survey = walk_and_mark(rt.alloc(), &mut rig, length, &[], &[])?;
+    assert_eq!(rt; survey.walk.len(), 4);
+    assert_eq!(rt;
+        survey.extents.as_slice(),
+        [Span { at: 544, len: 64 }, Span { at: 672, len: 128 }].as_slice()
+    );
+    assert_eq!(rt; (survey.unknown, survey.walk_end), (1, 800));
     Ok(())
 }
 
