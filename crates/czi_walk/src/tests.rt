@@ -2,8 +2,8 @@ ghost use Rattle.std.specs.Prelude.{IfOk};
 ghost use Rattle.czi_walk.specs.View.{IsRow};
 
 use crate::{
-    WalkFault, count_unknown, deleted_extents, is_walked, spans_of, walk, walk_and_mark, walk_end,
-    walk_known,
+    Survey, WalkFault, count_unknown, deleted_extents, is_walked, spans_of, walk, walk_and_mark,
+    walk_end, walk_known,
 };
 use czi_num::Span;
 use czi_rig::{File, MemRig};
@@ -60,6 +60,14 @@ fn walk_twice(
     let second = walk_known(alloc, &mut rig, length, &first)?;
     assert!(rt; first.as_slice() == second.as_slice());
     Ok((first, reads, rig.calls().saturating_sub(reads)))
+}
+
+/// The walk of an image with its marks, where no segment is known to be live.
+fn survey_of(rt: &impl Abort, alloc: Global, image: &[u8]) -> Result<Survey, Fail> {
+    let mut rig = MemRig::new(alloc, image, b"")?;
+    let length = rig.content(File::Image).len() as u64;
+    assert!(rt; length <= 1000);
+    Ok(walk_and_mark(alloc, &mut rig, length, &[], &[])?)
 }
 
 /// An image, the places of its walk, where it ends, how often it reads, and how often where its segments are known.
@@ -249,10 +257,7 @@ fn without_live_segments_each_deleted_one_at_multiples_of_32_is_free(
         (672, DELETED, 96),
     ];
     let image = image_of(rt.alloc(), 800, &headers)?;
-    let mut rig = MemRig::new(rt.alloc(), &image, b"")?;
-    let length = rig.content(File::Image).len() as u64;
-    assert!(rt; length <= 1000);
-    let survey = walk_and_mark(rt.alloc(), &mut rig, length, &[], &[])?;
+    let survey = survey_of(&rt, rt.alloc(), &image)?;
     assert_eq!(rt; survey.walk.len(), 4);
     assert_eq!(rt;
         survey.extents.as_slice(),
