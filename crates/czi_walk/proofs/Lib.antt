@@ -3,3 +3,4 @@ mod Known
 pub mod Walked
 pub mod Marked
 pub mod Live
+pub mod Stand
