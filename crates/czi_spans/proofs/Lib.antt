@@ -1,0 +1,4 @@
+pub mod Sorting
+pub mod Spans
+pub mod Apart
+mod Neighbours

@@ -1,0 +1,23 @@
+use Rattle.std.proofs.Common.{◌+◌, ◌<◌, ◌≤◌, nat_le, length, rules, arith, sym, ◌∙◌, ap}
+use Rattle.std.specs.List.Sorted.{IsPartitionedBy}
+use Rattle.std.proofs.lemmas.Bool.{le-ltb}
+use Rattle.std.proofs.lemmas.List.Sorted.{IsPartitionPoint-from_clause}
+use Rattle.czi_format.specs.Span.{meets}
+use Rattle.czi_num.specs.declared.span.Span.{Span as CodeSpan}
+use Rattle.czi_num.specs.Span.{span_of}
+use Rattle.czi_spans.proofs.Apart.{ends_parted, meeting_decided, meeting_nowhere}
+use Rattle.czi_spans.proofs.search.meets_any.Goals as goal
+
+pub returns-then-i-spans : goal.returns-then-i-spans
+returns-then-i-spans c =
+    let parted : IsPartitionedBy (λ (s : CodeSpan). nat_le (s.at + s.len) c.args.span.now.at) c.args.spans.now = ends_parted span_of c.args.span.now.at c.args.spans.now c.requires in
+    let point = IsPartitionPoint-from_clause (λ (s : CodeSpan). nat_le (s.at + s.len) c.args.span.now.at) _ _ c.partition_point-i.ensures.partitioned parted (λ a r q k. search rules) in
+    let inside : c.partition_point-i.result < length c.args.spans.now = omega (arith, c.if-i-spans.true) in
+    c.meets.ensures.value ∙ ap (λ (s : CodeSpan). meets (span_of c.args.span.now) (span_of s)) c.index-spans-i.is ∙ sym (meeting_decided span_of (span_of c.args.span.now) c.args.spans.now c.partition_point-i.result c.index-spans-i.result c.requires inside (λ k e l. point.0 k e (omega arith) l) (λ e. point.1 c.partition_point-i.result e (omega arith) inside))
+
+pub returns-else-i-spans : goal.returns-else-i-spans
+returns-else-i-spans c =
+    let parted : IsPartitionedBy (λ (s : CodeSpan). nat_le (s.at + s.len) c.args.span.now.at) c.args.spans.now = ends_parted span_of c.args.span.now.at c.args.spans.now c.requires in
+    let point = IsPartitionPoint-from_clause (λ (s : CodeSpan). nat_le (s.at + s.len) c.args.span.now.at) _ _ c.partition_point-i.ensures.partitioned parted (λ a r q k. search rules) in
+    let past : length c.args.spans.now ≤ c.partition_point-i.result = omega (arith, c.if-i-spans.false) in
+    le-ltb _ _ past ∙ sym (meeting_nowhere span_of (span_of c.args.span.now) c.args.spans.now (λ k e l. point.0 k e (omega arith) (omega (arith, past))))

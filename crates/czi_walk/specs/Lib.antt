@@ -1,0 +1,4 @@
+pub mod View
+pub mod Causes
+pub mod Marks
+pub mod Survey
