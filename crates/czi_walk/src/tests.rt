@@ -80,6 +80,24 @@ struct Row<'a> {
     reads: (u64, u64),
 }
 
+impl<'a> Row<'a> {
+    fn new(
+        length: usize,
+        headers: &'a [(usize, [u8; 16], u64)],
+        places: &'a [u64],
+        end: u64,
+        reads: (u64, u64),
+    ) -> Row<'a> {
+        Row {
+            length,
+            headers,
+            places,
+            end,
+            reads,
+        }
+    }
+}
+
 #[test]
 fn the_walk_goes_from_end_to_end_or_to_the_next_multiple_of_32(
     rt: HostRuntime,
@@ -95,97 +113,19 @@ fn the_walk_goes_from_end_to_end_or_to_the_next_multiple_of_32(
     let negative = [(0, FILE, 512), (544, DIRECTORY, 1 << 63)];
     let late = [(32, FILE, 512)];
     for row in [
-        Row {
-            length: 800,
-            headers: &steady,
-            places: &[0, 544, 736],
-            end: 800,
-            reads: (3, 0),
-        },
-        Row {
-            length: 840,
-            headers: &steady,
-            places: &[0, 544, 736],
-            end: 800,
-            reads: (4, 1),
-        },
-        Row {
-            length: 799,
-            headers: &steady,
-            places: &[0, 544],
-            end: 736,
-            reads: (3, 1),
-        },
-        Row {
-            length: 736,
-            headers: &gap,
-            places: &[0, 544],
-            end: 736,
-            reads: (3, 1),
-        },
-        Row {
-            length: 600,
-            headers: &close,
-            places: &[0, 532, 564],
-            end: 600,
-            reads: (3, 0),
-        },
-        Row {
-            length: 736,
-            headers: &low,
-            places: &[0],
-            end: 544,
-            reads: (2, 1),
-        },
-        Row {
-            length: 736,
-            headers: &high,
-            places: &[0],
-            end: 544,
-            reads: (2, 1),
-        },
-        Row {
-            length: 736,
-            headers: &split,
-            places: &[0],
-            end: 544,
-            reads: (2, 1),
-        },
-        Row {
-            length: 736,
-            headers: &empty,
-            places: &[0],
-            end: 544,
-            reads: (2, 1),
-        },
-        Row {
-            length: 736,
-            headers: &long,
-            places: &[0],
-            end: 544,
-            reads: (2, 1),
-        },
-        Row {
-            length: 736,
-            headers: &negative,
-            places: &[0],
-            end: 544,
-            reads: (2, 1),
-        },
-        Row {
-            length: 736,
-            headers: &late,
-            places: &[],
-            end: 0,
-            reads: (1, 1),
-        },
-        Row {
-            length: 31,
-            headers: &[],
-            places: &[],
-            end: 0,
-            reads: (0, 0),
-        },
+        Row::new(800, &steady, &[0, 544, 736], 800, (3, 0)),
+        Row::new(840, &steady, &[0, 544, 736], 800, (4, 1)),
+        Row::new(799, &steady, &[0, 544], 736, (3, 1)),
+        Row::new(736, &gap, &[0, 544], 736, (3, 1)),
+        Row::new(600, &close, &[0, 532, 564], 600, (3, 0)),
+        Row::new(736, &low, &[0], 544, (2, 1)),
+        Row::new(736, &high, &[0], 544, (2, 1)),
+        Row::new(736, &split, &[0], 544, (2, 1)),
+        Row::new(736, &empty, &[0], 544, (2, 1)),
+        Row::new(736, &long, &[0], 544, (2, 1)),
+        Row::new(736, &negative, &[0], 544, (2, 1)),
+        Row::new(736, &late, &[], 0, (1, 1)),
+        Row::new(31, &[], &[], 0, (0, 0)),
     ] {
         let image = image_of(rt.alloc(), row.length, row.headers)?;
         let (found, reads, again) = walk_twice(&rt, rt.alloc(), &image)?;
