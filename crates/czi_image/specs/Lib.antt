@@ -4,3 +4,4 @@ pub mod Faults
 pub mod Entries
 pub mod Rules
 pub mod Inside
+pub mod Holds
