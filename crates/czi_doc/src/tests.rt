@@ -1,6 +1,6 @@
 use crate::{
     AttInfo, Bytes, Dim, Dims, EntryInfo, ItemFault, Key, TextFault, equal_keys, read_dims,
-    write_dims,
+    write_dims, write_name,
 };
 use std::alloc::Global;
 use std::test::Fail;

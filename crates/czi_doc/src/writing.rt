@@ -60,10 +60,10 @@ pub fn write_name(name: &[u8], out: &mut Vec<u8>) -> Result<(), AllocError>
     ensures ok { OnOk result (out.new.items ≡ out.old.items ++ bytes_text (up_to_zero name.now)) }
     ensures err { OnErr result (out.new.items ≡ out.old.items) }
 {
-    let before = out.len();
+    let start = out.len();
     let named = push_name(name, out);
     if named.is_err() {
-        out.truncate(before);
+        out.truncate(start);
     }
     named
 }
