@@ -25,7 +25,7 @@ tells_first r f (TooMany place count) t = err_first r f _ t
 tells_first r f (BadEntry place) t = err_first r f _ t
 tells_first r f (BadSegment place) t = err_first r f _ t
 tells_first r f (BadAttachment place) t = err_first r f _ t
-tells_first r f (Overlap first second) t = t
+tells_first r f (Overlap first second) t = err_first r f _ t
 tells_first r f Memory t = tt
 tells_first r f Device t = tt
 

@@ -5,6 +5,7 @@ mod attachments;
 mod directory;
 mod entries;
 mod fault;
+mod found;
 mod header;
 mod metadata;
 mod reading;
