@@ -12,7 +12,8 @@ use Rattle.czi_image.specs.declared.types.Tile.{Tile as CodeTile}
 use Rattle.czi_image.specs.declared.types.AttItem.{AttItem as CodeAttItem}
 use Rattle.czi_image.specs.declared.types.MetaItem.{MetaItem as CodeMetaItem}
 use Rattle.czi_image.specs.declared.types.DirItem.{DirItem}
-use Rattle.czi_image.specs.declared.types.Index.{Index}
+use Rattle.czi_image.specs.declared.index.Index.{Index}
+use Rattle.czi_image.specs.Spans.{header_span, directory_span, tile_span, att_item_span, meta_item_span}
 use Rattle.czi_image.specs.View.{tile_of, att_item_of, meta_item_of}
 
 -- the file header of a first part, with no update pending
@@ -27,7 +28,7 @@ pub record IsHeader (header : FileHeader) (h : CodeFileHeader) : Type 0 where
 
 -- where a directory lies
 abbrev pub lies_at : Option DirItem → Option Span
-lies_at item = option_map (λ (d : DirItem). span_of d.span) item
+lies_at item = option_map directory_span item
 
 abbrev pub extent_of : Option Directory → Option Span
 extent_of dir = option_map (λ (d : Directory). extent d.segment) dir
@@ -43,19 +44,19 @@ pub record Holds (live : Live) (x : Index) : Type 0 where
 
 -- places, as the index has them
 abbrev pub header_place : CodeFileHeader → Place
-header_place h = record { span = record { at = 0; len = 32 + h.allocated }; walked = true }
+header_place h = record { span = header_span h; walked = true }
 
 abbrev pub directory_place : DirItem → Place
-directory_place d = record { span = span_of d.span; walked = d.walked }
+directory_place d = record { span = directory_span d; walked = d.walked }
 
 abbrev pub tile_place : CodeTile → Place
-tile_place t = record { span = span_of t.span; walked = t.walked }
+tile_place t = record { span = tile_span t; walked = t.walked }
 
 abbrev pub att_item_place : CodeAttItem → Place
-att_item_place a = record { span = span_of a.span; walked = a.walked }
+att_item_place a = record { span = att_item_span a; walked = a.walked }
 
 abbrev pub meta_item_place : CodeMetaItem → Place
-meta_item_place m = record { span = span_of m.span; walked = m.walked }
+meta_item_place m = record { span = meta_item_span m; walked = m.walked }
 
 -- The index has this layout; of the unknown segments it has the number.
 pub record LiesAs (l : Layout) (x : Index) : Type 0 where
