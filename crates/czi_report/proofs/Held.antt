@@ -7,7 +7,7 @@ use Rattle.czi_num.specs.Span.{span_of}
 use Rattle.czi_num.specs.declared.span.Span.{Span as CodeSpan}
 use Rattle.czi_seg.specs.View.{header_of}
 use Rattle.czi_seg.specs.declared.header.SegHeader.{SegHeader}
-use Rattle.czi_image.specs.declared.types.Index.{Index}
+use Rattle.czi_image.specs.declared.index.Index.{Index}
 use Rattle.czi_image.specs.Holds.{Holds, lies_at, extent_of}
 use Rattle.czi_image.specs.View.{tile_of, att_item_of, meta_item_of}
 use Rattle.czi_report.specs.Text.{items_text, tile_line, list_text, number_line, guid_line, directory_line, tile_info_line, attachment_line, metadata_line, info_text, span_text}
