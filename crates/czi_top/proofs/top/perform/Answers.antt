@@ -4,7 +4,7 @@ use Rattle.czi_rig.specs.Moments.{LeavesSaying}
 use Rattle.czi_rig.proofs.Known.{known_seen}
 use Rattle.czi_rig.proofs.Quiet.{devices_same, untouched_run}
 use Rattle.czi_rig.proofs.Runs.{run_calls}
-use Rattle.czi_top.proofs.top.list.Goals as goal
+use Rattle.czi_top.proofs.top.perform.Goals as goal
 
 pub returns-in_err-say-clause-moments : goal.returns-in_err-say-clause-moments
 returns-in_err-say-clause-moments g c = λ all is.
