@@ -68,13 +68,14 @@ has_extent span head len = λ j. record { at = span.at; len = len j }
 
 -- each span is its header's extent
 pub items_extents : (l : CodeLive) → AllByRecursion HasExtent (items_of l)
-items_extents l =
-    (has_extent l.header.span l.header.head l.header.extent,
-    all_both HasExtent _ _ (all_option HasExtent directory_item l.directory (λ d _. has_extent d.segment.span d.segment.head d.segment.extent))
-    (all_both HasExtent _ _ (any_list HasExtent tile_item (λ t. has_extent t.span t.head t.extent) l.tiles.items)
-    (all_both HasExtent _ _ (all_option HasExtent directory_item l.attdir (λ d _. has_extent d.segment.span d.segment.head d.segment.extent))
-    (all_both HasExtent _ _ (any_list HasExtent att_item_item (λ a. has_extent a.span a.head a.extent) l.attachments.items)
-    (all_option HasExtent meta_item_item l.metadata (λ m _. has_extent m.span m.head m.extent))))))
+items_extents l = (
+  has_extent l.header.span l.header.head l.header.extent,
+  all_both HasExtent _ _ (all_option HasExtent directory_item l.directory (λ d _. has_extent d.segment.span d.segment.head d.segment.extent))
+      (all_both HasExtent _ _ (any_list HasExtent tile_item (λ t. has_extent t.span t.head t.extent) l.tiles.items)
+      (all_both HasExtent _ _ (all_option HasExtent directory_item l.attdir (λ d _. has_extent d.segment.span d.segment.head d.segment.extent))
+      (all_both HasExtent _ _ (any_list HasExtent att_item_item (λ a. has_extent a.span a.head a.extent) l.attachments.items)
+      (all_option HasExtent meta_item_item l.metadata (λ m _. has_extent m.span m.head m.extent))))),
+)
 
 some_holds : {X : Type 0} (P : X → Type 0) (o : Option X) → IfSome o P → (x : X) → o ≡ Some x → P x
 some_holds P None holds x is = cc
@@ -86,10 +87,11 @@ some_holds P (Some y) holds x is = let same : y ≡ x = cc in transport_to P y x
 -- each ends within the length
 pub items_end : (size : ℕ) (l : CodeLive) → LiveWithin size l → EndBy size (items_of l)
 items_end size l within =
-    let P : CodeSpan × SegHeader → Type 0 = λ item. end_of (span_of item.0) ≤ size in
-    ((let place : l.header.span.at ≡ 0 = l.header.place in omega (arith, place, within.header)),
-    all_both P _ _ (all_option P directory_item l.directory (λ d is. some_holds (DirectoryEnds size) l.directory within.directory d is))
-    (all_both P _ _ (all_list P (TileEnds size) tile_item (λ t ends. ends) l.tiles.items within.tiles)
-    (all_both P _ _ (all_option P directory_item l.attdir (λ d is. some_holds (DirectoryEnds size) l.attdir within.attdir d is))
-    (all_both P _ _ (all_list P (AttItemEnds size) att_item_item (λ a ends. ends) l.attachments.items within.attachments)
-    (all_option P meta_item_item l.metadata (λ m is. some_holds (MetaItemEnds size) l.metadata within.metadata m is))))))
+    let P : CodeSpan × SegHeader → Type 0 = λ item. end_of (span_of item.0) ≤ size in (
+      (let place : l.header.span.at ≡ 0 = l.header.place in omega (arith, place, within.header)),
+      all_both P _ _ (all_option P directory_item l.directory (λ d is. some_holds (DirectoryEnds size) l.directory within.directory d is))
+          (all_both P _ _ (all_list P (TileEnds size) tile_item (λ t ends. ends) l.tiles.items within.tiles)
+          (all_both P _ _ (all_option P directory_item l.attdir (λ d is. some_holds (DirectoryEnds size) l.attdir within.attdir d is))
+          (all_both P _ _ (all_list P (AttItemEnds size) att_item_item (λ a ends. ends) l.attachments.items within.attachments)
+          (all_option P meta_item_item l.metadata (λ m is. some_holds (MetaItemEnds size) l.metadata within.metadata m is))))),
+    )

@@ -134,6 +134,7 @@ fn read_attached<R: Rig>(
     let bytes = read_a1_entries(alloc, rig, directory)?;
     let place = directory.segment.span.at + 288;
     let entries = take_a1_entries(alloc, directory.count, &bytes, place)?;
+    drop(bytes);
     read_each(alloc, rig, entries, size)
 }
 

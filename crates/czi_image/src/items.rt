@@ -78,10 +78,7 @@ fn live_items(alloc: Global, live: &Live) -> Result<Vec<(Span, SegHeader)>, Allo
 }
 
 /// All live segments in order of place.
-pub(crate) fn sorted_items(
-    alloc: Global,
-    live: &Live,
-) -> Result<Vec<(Span, SegHeader)>, AllocError>
+pub(crate) fn sorted_items(alloc: Global, live: &Live) -> Result<Vec<(Span, SegHeader)>, AllocError>
     requires few { length live.now.tiles.items ≤ 2 ^ 20 }
     requires few_attachments { length live.now.attachments.items ≤ 2 ^ 12 }
     ensures { IfOk result (λ v. AreSorted (items_of live.now) v.items) }

@@ -137,6 +137,7 @@ fn read_listed<R: Rig>(
     let bytes = read_entries(alloc, rig, directory)?;
     let place = directory.segment.span.at + 160;
     let entries = take_entries(alloc, directory.count, &bytes, place)?;
+    drop(bytes);
     read_each(alloc, rig, entries, size)
 }
 
