@@ -1,5 +1,6 @@
 -- What was read is what a command finds.
-use Rattle.std.proofs.Common.{◌≡◌, ℕ, List, [], ◌∷◌, length, Some, Result, Ok, Err, refl, ap, sym, ◌∙◌}
+use Rattle.std.proofs.Common.{◌≡◌, ℕ, List, [], ◌∷◌, length, true, false, not, ◌==◌, Some, Result, Ok, Err, refl, ap, sym, ◌∙◌, arith}
+use Rattle.std.proofs.lemmas.Bool.Decides.{nat_tests}
 use Rattle.std.specs.Prelude.{IfOk, IfErr}
 use Rattle.czi_format.specs.FirstFault.{with_fault}
 use Rattle.czi_format.specs.Live.{Live}
@@ -24,16 +25,19 @@ err_weaker (Ok x) P Q h p = p
 err_weaker (Err e) P Q h p = h e p
 
 -- a journal stands beside the image
-pub journal_first : (image journal : List ℕ) → (length journal ≡ 0 → ⊥) → opening image journal ≡ Err later
-journal_first image [] some = absurd (some refl)
-journal_first image (b ∷ rest) some = refl
+pub journal_first : (image journal : List ℕ) → true ≡ not (length journal == 0) → opening image journal ≡ Err later
+journal_first image [] there = cc
+journal_first image (b ∷ rest) there = refl
 
-with_empty : (image journal : List ℕ) → 0 ≡ length journal → opening image journal ≡ with_fault refused (reading image)
+with_empty : (image journal : List ℕ) → false ≡ not (length journal == 0) → opening image journal ≡ with_fault refused (reading image)
 with_empty image [] none = refl
-with_empty image (b ∷ rest) none = cc
+with_empty image (b ∷ rest) none =
+    let some : (length (b ∷ rest) == 0) ≡ false = grind (arith, nat_tests) in
+    let both : false ≡ true = none ∙ ap not some in
+    cc
 
 -- none does, and the image was read
-pub opened : (image journal : List ℕ) (x : Index) (shown : Indexes image x) → 0 ≡ length journal → opening image journal ≡ Ok shown.live
+pub opened : (image journal : List ℕ) (x : Index) (shown : Indexes image x) → false ≡ not (length journal == 0) → opening image journal ≡ Ok shown.live
 opened image journal x shown none = with_empty image journal none ∙ ap (with_fault refused) (reaches_reading image shown.live shown.reaches shown.idle)
 
 told_rule : (r : Result Live Refusal) (fault : ImageFault) (rule : Refusal) → Tells r fault → refusal_of fault ≡ Some rule → r ≡ Err rule
@@ -50,7 +54,7 @@ told_rule r Memory rule told is = cc
 told_rule r Device rule told is = cc
 
 -- none does, and a rule refuses the image
-pub rule_refuses : (image journal : List ℕ) (fault : ImageFault) (rule : Refusal) → 0 ≡ length journal → Refuses image fault → refusal_of fault ≡ Some rule → opening image journal ≡ Err (refused rule)
+pub rule_refuses : (image journal : List ℕ) (fault : ImageFault) (rule : Refusal) → false ≡ not (length journal == 0) → Refuses image fault → refusal_of fault ≡ Some rule → opening image journal ≡ Err (refused rule)
 rule_refuses image journal fault rule none refuses is = with_empty image journal none ∙ ap (with_fault refused) (told_rule (reading image) fault rule refuses is)
 
 -- the reply to what was found

@@ -1,5 +1,5 @@
 // The top call of the program.
-ghost use Rattle.std.specs.Prelude.{◌≡◌, ◌≢◌, ◌⊎◌, ◌++◌, None, map, take, length, string_bytes, IfOk, IfErr, OnOk, option_map};
+ghost use Rattle.std.specs.Prelude.{◌≡◌, ◌≢◌, ◌⊎◌, ◌++◌, ◌==◌, not, None, map, take, length, string_bytes, IfOk, IfErr, OnOk, option_map};
 ghost use Rattle.std.specs.Option.{ForSome};
 ghost use Rattle.czi_format.specs.Live.{Live};
 ghost use Rattle.czi_image.specs.Holds.{Holds};
@@ -44,6 +44,26 @@ fn report(alloc: Global, command: Command, index: &Index) -> Result<Vec<u8>, All
     Ok(text)
 }
 
+/// The reply of a refusal.
+fn refused(text: Vec<u8>) -> Reply
+    ensures text { result.text ≡ text }
+    ensures status { result.status ≡ 2 }
+{
+    Reply { text, status: 2 }
+}
+
+/// Whether a journal stands beside the image.
+fn has_journal<R: Rig>(rig: &mut R) -> Result<bool, Stop>
+    ensures found { IfOk result (λ there. ForSome (seen_of (R.state rig.old) File.Journal) (λ journal. there ≡ not (length journal == 0))) }
+    ensures untouched { Untouched R.Rig rig.old rig.new }
+    ensures cause { LooksFor (R.state rig.old) (R.state rig.new) result }
+{
+    match rig.len(File::Journal) {
+        Ok(length) => Ok(length != 0),
+        Err(_) => Err(Stop::Journal),
+    }
+}
+
 /// Reads the image, where no journal stands beside it, and answers what the command says.
 fn answer<R: Rig>(alloc: Global, rig: &mut R, command: Command) -> Result<Reply, Stop>
     ensures found { IfOk result (λ r. ForSome (seen_of (R.state rig.old) File.Image) (λ image. ForSome (seen_of (R.state rig.old) File.Journal) (λ journal.
@@ -52,25 +72,15 @@ fn answer<R: Rig>(alloc: Global, rig: &mut R, command: Command) -> Result<Reply,
     ensures untouched { Untouched R.Rig rig.old rig.new }
     ensures cause { LooksFor (R.state rig.old) (R.state rig.new) result }
 {
-    match rig.len(File::Journal) {
-        Ok(0) => {}
-        Ok(_) => {
-            return Ok(Reply {
-                text: Vec::from_slice(alloc, b"refused later\n")?,
-                status: 2,
-            });
-        }
-        Err(_) => return Err(Stop::Journal),
+    if has_journal(rig)? {
+        return Ok(refused(Vec::from_slice(alloc, b"refused later\n")?));
     }
     match read_index(alloc, rig) {
         Ok(index) => Ok(Reply {
             text: report(alloc, command, &index)?,
             status: 0,
         }),
-        Err(fault) => Ok(Reply {
-            text: refusal_text(alloc, &fault)?,
-            status: 2,
-        }),
+        Err(fault) => Ok(refused(refusal_text(alloc, &fault)?)),
     }
 }
 

@@ -1,4 +1,4 @@
-use Rattle.std.proofs.Common.{◌≡◌, ◌∙◌, Option, Some, None, subst, inl, inr, refl}
+use Rattle.std.proofs.Common.{◌≡◌, Option, subst, inl, inr, refl}
 use Rattle.czi_rig.specs.Moments.{Throughout, LeavesSaying}
 use Rattle.czi_top.specs.Words.{Command}
 use Rattle.czi_top.specs.Opening.{opening}
@@ -14,7 +14,7 @@ returns-in-Some-clause-reply g c = λ command is_command image is journal js.
     let same : command_view c.in-Some.command ≡ command = cc (c.in-Some.ensures, is_command) in
     subst (λ (k : Command). Ends (reply k image journal) (status_of (opening image journal)) (g.R.Rig.state c.args.rig.now) (g.R.Rig.state c.perform.new.rig) c.status_of.result) same
     (rw c.status_of.ensures (ends_so c.perform.result _ _ _ _ c.perform.ensures.status
-        (ok_weaker c.perform.result _ _ (λ s h. h image is journal js) c.perform.ensures.answered) (err_weaker c.perform.result _ _ (λ stop h. h image is journal js) c.perform.ensures.stopped)))
+    (ok_weaker c.perform.result _ _ (λ s h. h image is journal js) c.perform.ensures.answered) (err_weaker c.perform.result _ _ (λ stop h. h image is journal js) c.perform.ensures.stopped)))
 
 pub returns-in-Ok-clause-usage : goal.returns-in-Ok-clause-usage
 unfolding usage
