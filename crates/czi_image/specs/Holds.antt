@@ -1,5 +1,5 @@
 -- What an index says of an image: what the pointers of the file header reach, and where everything lies.
-use Rattle.std.specs.Prelude.{◌≡◌, ℕ, pos, List, map, length, Option, option_map, true}
+use Rattle.std.specs.Prelude.{◌≡◌, ℕ, ◌+◌, pos, List, map, length, Option, option_map, true}
 use Rattle.czi_format.specs.Span.{Span}
 use Rattle.czi_format.specs.Segment.{Segment, extent}
 use Rattle.czi_format.specs.Live.{FileHeader, Directory, Live, update_pending}
