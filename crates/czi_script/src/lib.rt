@@ -1,0 +1,11 @@
+//! Edit scripts, read command by command from an input.
+#![tactic(auto)]
+
+mod command;
+mod error;
+mod kind;
+mod lines;
+
+pub use command::Command;
+pub use error::ScriptError;
+pub use kind::Kind;
