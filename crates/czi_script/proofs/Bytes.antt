@@ -1,5 +1,5 @@
 -- Bytes up to the first of one value.
-use Rattle.std.proofs.Common.{◌≡◌, ℕ, zero, suc, ◌+◌, ◌<◌, ◌≤◌, List, [], ◌∷◌, ◌++◌, take, drop, length, Bool, true, false, not, ◌==◌, ◌⊎◌, refl, ap, sym, ◌∙◌, subst, arith, inl, inr, length-take}
+use Rattle.std.proofs.Common.{◌≡◌, ℕ, zero, suc, ◌+◌, ◌<◌, ◌≤◌, List, [], ◌∷◌, ◌++◌, take, drop, length, Bool, true, false, not, ◌==◌, ◌⊎◌, refl, ap, sym, ◌∙◌, subst, arith, inl, inr, length-take, take_all, min}
 use Rattle.std.specs.Prelude.{◌≢◌}
 use Rattle.std.proofs.lemmas.Bool.{cases_Bool, eqb-true, eqb-false}
 use Rattle.czi_script.specs.Script.{Free, len_before}
@@ -119,3 +119,26 @@ first_in_front b m bytes n e lt = first_at b bytes n (first_of_front b m bytes n
   where
     longer : (m : ℕ) (bytes : List ℕ) (n : ℕ) → n < length (take m bytes) → n < length bytes
     longer m bytes n lt = grind (arith, length-take)
+
+-- a front without b that reaches as far as a line may, and one that is all of the bytes
+pub record NoLine (b most : ℕ) (bytes : List ℕ) : Type 0 where
+  pub far : most ≤ length bytes
+  pub free : Free b (take most bytes)
+
+pub no_line : (b most m n : ℕ) (bytes : List ℕ) → m ≡ min (length bytes) most → n ≡ len_before b (take m bytes) → n ≤ length (take m bytes) → length (take m bytes) ≤ n → n ≡ most → NoLine b most bytes
+no_line b most m n bytes m_is e inside le full =
+    let h : m ≡ most = grind (arith, length-take) in
+    record { far = omega (arith, h, m_is); free = subst (λ k. Free b (take k bytes)) h (all_free b (take m bytes) (omega (arith, e, le))) }
+
+pub record Started (b most : ℕ) (bytes : List ℕ) : Type 0 where
+  pub short : length bytes < most
+  pub free : Free b bytes
+
+pub started : (b most m n : ℕ) (bytes : List ℕ) → m ≡ min (length bytes) most → n ≡ len_before b (take m bytes) → n ≤ length (take m bytes) → length (take m bytes) ≤ n → (n ≡ most → ⊥) → Started b most bytes
+started b most m n bytes m_is e inside le some =
+    let h : length (take m bytes) ≡ min m (length bytes) = length-take m bytes in
+    let short : length bytes < most = small h in
+    record { short = short; free = subst (Free b) (take_all m bytes (omega (arith, m_is, short))) (all_free b (take m bytes) (omega (arith, e, le))) }
+  where
+    small : length (take m bytes) ≡ min m (length bytes) → length bytes < most
+    small h = grind arith

@@ -3,6 +3,8 @@ use Rattle.std.proofs.Common.{◌≡◌, ℕ, suc, ◌+◌, ◌<◌, ◌≤◌, 
 use Rattle.std.specs.Prelude.{◌≢◌, codes, bytes_eq, IsTrue, IsFalse}
 use Rattle.czi_format.specs.Entry.{Dim}
 use Rattle.czi_doc.specs.DimText.{IsDimText}
+use Rattle.czi_doc.specs.declared.fault.TextFault.{TextFault}
+use Rattle.czi_doc.specs.declared.fault.TextFault.TheVariants.{Bad, Memory}
 use Rattle.czi_script.specs.declared.kind.Kind.TheVariants.{Word, Later, Field, Value}
 use Rattle.czi_script.specs.Script.{Command, Remove, Listing, Info, Free, IsLine, word, built_words, later_words, is_among, HasFields, IsWrong}
 
@@ -68,3 +70,9 @@ fields_built line has = elim has [
   | inl r ↦ is_built line (codes "remove") refl (ap word r.1)
   | inr b ↦ elim b [ inl l ↦ is_built line (codes "list") refl (ap word l) | inr i ↦ is_built line (codes "info") refl (ap word i) ]
 ]
+
+pub bad_not_memory : (fault : TextFault) (place : ℕ) → fault ≡ Bad place → fault ≡ Memory → ⊥
+bad_not_memory fault place bad memory = apart place (sym bad ∙ memory)
+  where
+    apart : (p : ℕ) → Bad p ≡ Memory → ⊥
+    apart p e = cc
