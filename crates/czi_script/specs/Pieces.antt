@@ -25,10 +25,21 @@ abbrev pub Refuses : List ℕ → Refusal → Type 0
 Refuses line (OfKind kind) = IsWrong kind line
 Refuses line NoMemory = Unit {0}
 
+-- the input is at its end
+abbrev pub AtEnd : Option (List ℕ) → Type 0
+AtEnd left = ForSome left (λ bytes. bytes ≡ [])
+
 -- The bytes that were held are followed by these, which are the first that the input had left.
 pub record Adds (held new more : List ℕ) (before after : Option (List ℕ)) : Type 0 where
   pub whole : new ≡ held ++ more
   pub left : ForSome before (λ left. (rest : List ℕ) × (left ≡ more ++ rest) × (after ≡ Some rest))
+
+-- so many bytes were added, none only at the input's end
+pub record Added (held new : List ℕ) (count : ℕ) (before after : Option (List ℕ)) : Type 0 where
+  pub more : List ℕ
+  pub counted : length more ≡ count
+  pub adds : Adds held new more before after
+  pub none : count ≡ 0 → AtEnd after
 
 -- A reader took these bytes, and used none.
 pub record TookOn (old new : Reader) (before after : Option (List ℕ)) (more : List ℕ) : Type 0 where
@@ -36,10 +47,6 @@ pub record TookOn (old new : Reader) (before after : Option (List ℕ)) (more : 
   pub taken : new.taken ≡ old.taken + length more
   pub commands : new.commands ≡ old.commands
   pub error : new.error ≡ old.error
-
--- the input is at its end
-abbrev pub AtEnd : Option (List ℕ) → Type 0
-AtEnd left = ForSome left (λ bytes. bytes ≡ [])
 
 -- one byte of the input was taken
 abbrev pub GoesOn : Option (List ℕ) → Option (List ℕ) → Type 0

@@ -5,6 +5,7 @@ mod command;
 mod error;
 mod kind;
 mod lines;
+mod window;
 
 pub use command::Command;
 pub use error::ScriptError;
