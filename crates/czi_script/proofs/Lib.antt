@@ -1,3 +1,4 @@
 pub mod Bytes
 pub mod LineKinds
 pub mod Windows
+pub mod Steps

@@ -8,7 +8,7 @@ use Rattle.std.specs.Vec.{with_items}
 use Rattle.std.specs.declared.vec.Vec.{Vec}
 use Rattle.std.proofs.lemmas.Grind.{common_steps}
 use Rattle.czi_rig.specs.Source.{Takes}
-use Rattle.czi_script.specs.Pieces.{Added, Adds, AtEnd}
+use Rattle.czi_script.specs.Pieces.{Added, Adds, AtEnd, GoesOn}
 
 pub on_err : {T E Q : Type 0} (r : Result T E) → Q → OnErr r Q
 on_err (Ok x) q = tt
@@ -49,6 +49,33 @@ taken_front n into left after t = (drop n left, sym (take-append-drop n left) �
 none_left : (n : ℕ) (into left : List ℕ) (after : Option (List ℕ)) → Takes n into left after → n ≡ 0 → after ≡ Some []
 none_left n into left after t none = t.rest ∙ ap (λ l. Some (drop n l)) (t.none.0 none) ∙ ap Some (drop-nil n)
 
+-- an input that gives no byte is at its end, and stays as it is
+pub at_end : (n : ℕ) (into : List ℕ) (before after : Option (List ℕ)) → n ≡ 0 → ((left : List ℕ) → before ≡ Some left → Takes n into left after) → is_some after ≡ is_some before → AtEnd after
+at_end n into None after none takes told = λ left is. absurd (no_truth (sym (ap is_some is) ∙ told))
+  where
+    no_truth : true ≡ false → ⊥
+    no_truth e = cc
+at_end n into (Some before) after none takes told = λ left is. same_Some left [] (sym is ∙ none_left n into before after (takes before refl) none)
+
+pub same_left : (n : ℕ) (into : List ℕ) (before after : Option (List ℕ)) → n ≡ 0 → ((left : List ℕ) → before ≡ Some left → Takes n into left after) → is_some after ≡ is_some before → after ≡ before
+same_left n into None None none takes told = refl
+same_left n into None (Some after) none takes told = absurd (no_truth told)
+  where
+    no_truth : true ≡ false → ⊥
+    no_truth e = cc
+same_left n into (Some before) after none takes told = (takes before refl).rest ∙ ap (λ k. Some (drop k before)) none
+
+-- an input that gives one byte
+pub goes_on : (n : ℕ) (into : List ℕ) (before after : Option (List ℕ)) → (n ≡ 0 → ⊥) → n ≤ 1 → ((left : List ℕ) → before ≡ Some left → Takes n into left after) → GoesOn before after
+goes_on n into before after some few takes = λ left is. one left (takes left is)
+  where
+    one : (left : List ℕ) → Takes n into left after → (b : ℕ) × (rest : List ℕ) × (left ≡ b ∷ rest) × (after ≡ Some rest)
+    one [] t = absurd (let fits : n ≤ 0 = t.fits in some (omega (arith, fits)))
+    one (b ∷ rest) t = (b, rest, refl, t.rest ∙ ap (λ k. Some (drop k (b ∷ rest))) single)
+      where
+        single : n ≡ 1
+        single = omega (arith, some, few)
+
 -- what is added to the bytes that are held
 pub added : (xs into rest held new : List ℕ) (from to n : ℕ) (before after : Option (List ℕ)) → from ≤ to → to ≤ length xs → n ≤ length into → held ≡ slice_range xs from to
     → new ≡ slice_range (take to xs ++ (into ++ rest)) from (to + n) → ((left : List ℕ) → before ≡ Some left → Takes n into left after) → is_some after ≡ is_some before → Added held new n before after
@@ -59,15 +86,8 @@ added xs into rest held new from to n before after order inside fits held_is new
     whole = new_is ∙ longer_piece xs into rest from to n order inside fits ∙ ap (λ l. l ++ take n into) (sym held_is);
     left = λ left is. taken_front n into left after (takes left is);
   };
-  none = λ zero left is. at_end before zero left is takes told;
+  none = λ zero. at_end n into before after zero takes told;
 }
-  where
-    at_end : (o : Option (List ℕ)) → n ≡ 0 → (left : List ℕ) → after ≡ Some left → ((left : List ℕ) → o ≡ Some left → Takes n into left after) → is_some after ≡ is_some o → left ≡ []
-    at_end None none left is takes told = absurd (no_truth (sym (ap is_some is) ∙ told))
-      where
-        no_truth : true ≡ false → ⊥
-        no_truth e = cc
-    at_end (Some before) none left is takes told = same_Some left [] (sym is ∙ none_left n into before after (takes before refl) none)
 
 pub kept_piece : (xs rest held : List ℕ) (from to : ℕ) → from ≤ to → to ≤ length xs → held ≡ slice_range xs from to → slice_range (take to xs ++ rest) from to ≡ held
 kept_piece xs rest held from to order inside held_is = same_piece xs rest from to order inside ∙ sym held_is

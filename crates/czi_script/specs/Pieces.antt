@@ -52,6 +52,13 @@ pub record TookOn (old new : Reader) (before after : Option (List ℕ)) (more : 
 abbrev pub GoesOn : Option (List ℕ) → Option (List ℕ) → Type 0
 GoesOn before after = ForSome before (λ left. (b : ℕ) × (rest : List ℕ) × (left ≡ b ∷ rest) × (after ≡ Some rest))
 
+-- where no more may be taken, the input failed, or it goes on
+abbrev pub EndsLine : Option (List ℕ) → Option (List ℕ) → ScriptError → Type 0
+EndsLine before after (Fault number kind) = ⊥
+EndsLine before after InputFailed = after ≡ before
+EndsLine before after TooLong = GoesOn before after
+EndsLine before after Memory = ⊥
+
 -- nothing stands in front of the bytes that are held but the beginning of a line
 pub record Unfinished (r : Reader) : Type 0 where
   pub short : length r.held < 4096

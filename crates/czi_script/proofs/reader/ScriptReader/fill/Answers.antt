@@ -1,0 +1,6 @@
+use Rattle.std.proofs.Common.{◌≡◌, [], true, false, refl, sym, ◌∙◌, arith}
+use Rattle.czi_script.proofs.Steps.{took_nothing, full_fills}
+use Rattle.czi_script.proofs.reader.ScriptReader.fill.Goals as goal
+
+pub returns-then-room-eq0-clause-fills : goal.returns-then-room-eq0-clause-fills
+returns-then-room-eq0-clause-fills g c = full_fills c.args.self.now _ _ c.in_ok-ends.ensures.same c.in_ok-ends.ensures.end
