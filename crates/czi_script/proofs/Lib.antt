@@ -2,3 +2,4 @@ pub mod Bytes
 pub mod LineKinds
 pub mod Windows
 pub mod Steps
+pub mod Shown
