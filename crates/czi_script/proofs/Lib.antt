@@ -3,3 +3,5 @@ pub mod LineKinds
 pub mod Windows
 pub mod Steps
 pub mod Shown
+pub mod Grammar
+pub mod Reading
