@@ -1,6 +1,5 @@
 -- Bytes up to the first of one value.
-use Rattle.std.proofs.Common.{◌≡◌, ℕ, zero, suc, ◌+◌, ◌<◌, ◌≤◌, List, [], ◌∷◌, ◌++◌, take, drop, length, Bool, true, false, not, ◌==◌, ◌⊎◌, refl, ap, sym, ◌∙◌, subst, arith, inl, inr, length-take, take_all, min}
-use Rattle.std.specs.Prelude.{◌≢◌}
+use Rattle.std.proofs.Common.{◌≡◌, ℕ, zero, suc, ◌+◌, ◌<◌, ◌≤◌, List, [], ◌∷◌, ◌++◌, take, drop, length, true, false, ◌==◌, refl, ap, sym, ◌∙◌, subst, arith, inl, inr, length-take, take_all, min}
 use Rattle.std.proofs.lemmas.Bool.{cases_Bool, eqb-true, eqb-false}
 use Rattle.czi_script.specs.Script.{Free, len_before}
 

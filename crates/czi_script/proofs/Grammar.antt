@@ -1,7 +1,7 @@
 -- Lines and spellings: each line is a command or wrong in one way, and no spelling begins another.
-use Rattle.std.proofs.Common.{◌≡◌, ℕ, zero, suc, ◌+◌, ◌-◌, ◌<◌, ◌≤◌, List, [], ◌∷◌, ◌++◌, take, drop, length, Bool, true, false, ◌&&◌, ◌||◌, ◌==◌, ◌⊎◌, Result, Ok, Err, refl, ap, sym, ◌∙◌, subst, arith, inl, inr, append-nil, append_assoc, length-append, length-take, take-append-drop, min, if◌then◌else◌}
-use Rattle.std.specs.Prelude.{◌≢◌, codes, bytes_eq, IsTrue, IsFalse, nat_lt, nat_le}
-use Rattle.std.proofs.lemmas.Bool.{cases_Bool, eqb-true, ne_eqb}
+use Rattle.std.proofs.Common.{◌≡◌, ℕ, zero, suc, List, [], ◌∷◌, ◌++◌, take, drop, length, Bool, true, false, ◌||◌, ◌⊎◌, Result, Ok, Err, refl, ap, sym, ◌∙◌, subst, arith, inl, inr, take-append-drop, if◌then◌else◌}
+use Rattle.std.specs.Prelude.{codes, bytes_eq, nat_lt}
+use Rattle.std.proofs.lemmas.Bool.{cases_Bool}
 use Rattle.std.proofs.lemmas.Bool.Decides.{nat_tests}
 use Rattle.std.proofs.lemmas.Slice.Eq.{bytes_eq-Decides}
 use Rattle.czi_format.specs.Entry.{Dim}
@@ -12,8 +12,8 @@ use Rattle.czi_doc.proofs.Spelled.{found}
 use Rattle.czi_doc.proofs.ReadAgain.{only, only_fault}
 use Rattle.czi_script.specs.declared.kind.Kind.{Kind}
 use Rattle.czi_script.specs.declared.kind.Kind.TheVariants.{Cut, Long, Word, Later, Field, Value, Tail}
-use Rattle.czi_script.specs.Script.{Command, Remove, Listing, Info, Free, IsLine, Spells, FirstLine, len_before, word, built_words, later_words, is_among, HasFields, IsWrong, IsFault, NoneBegins}
-use Rattle.czi_script.proofs.Bytes.{SameParts, parted_once, free_append, held_in, free_front, all_free, not_free}
+use Rattle.czi_script.specs.Script.{Command, Remove, Listing, Info, Free, IsLine, len_before, word, built_words, later_words, is_among, HasFields, IsWrong}
+use Rattle.czi_script.proofs.Bytes.{free_append, all_free, not_free}
 use Rattle.czi_script.proofs.LineKinds.{remove_not_list, remove_not_info, list_not_info, same_value, remove_value, fields_built}
 
 no_truth : true ≡ false → ⊥

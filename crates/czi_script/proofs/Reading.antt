@@ -1,5 +1,5 @@
 -- Scripts are read in one way, command by command.
-use Rattle.std.proofs.Common.{◌≡◌, ℕ, zero, suc, ◌+◌, ◌-◌, ◌<◌, ◌≤◌, List, [], ◌∷◌, ◌++◌, take, drop, length, Bool, true, false, ◌⊎◌, refl, ap, sym, ◌∙◌, subst, arith, inl, inr, append-nil, append_assoc, length-append, length-take, take-append-drop, min, take_at, take-take}
+use Rattle.std.proofs.Common.{◌≡◌, ℕ, zero, suc, ◌+◌, ◌-◌, ◌<◌, ◌≤◌, List, [], ◌∷◌, ◌++◌, take, drop, length, ◌⊎◌, refl, ap, sym, ◌∙◌, subst, arith, inl, inr, append-nil, append_assoc, length-append, length-take, take-append-drop, min, take-take}
 use Rattle.std.specs.Prelude.{◌≢◌, nat_lt}
 use Rattle.std.proofs.lemmas.Bool.{cases_Bool}
 use Rattle.std.proofs.lemmas.Bool.Decides.{nat_tests}
@@ -10,7 +10,7 @@ use Rattle.czi_script.specs.declared.kind.Kind.TheVariants.{Cut, Long, Word, Lat
 use Rattle.czi_script.specs.Script.{Command, Free, IsLine, Spells, FirstLine, len_before, IsWrong, IsFault, End, Done, Fault, IsEnd, NoneBegins, SpellAll, Reads, Found, Next, Ended, Wrong, Beyond, Shows, Finds}
 use Rattle.czi_script.proofs.Bytes.{SameParts, parted_once, held_in, free_front, all_free, FirstAt, first_at}
 use Rattle.czi_script.proofs.Shown.{fault_of_wrong}
-use Rattle.czi_script.proofs.Grammar.{line_free, one_command, not_both, kind_of, kind_is, LineIs, line_is}
+use Rattle.czi_script.proofs.Grammar.{line_free, one_command, not_both, kind_is, LineIs, line_is}
 
 less_or : (a b : ℕ) → (a < b) ⊎ (b ≤ a)
 less_or a b = elim (cases_Bool (nat_lt a b)) [

@@ -1,6 +1,5 @@
 -- What the bytes that are held show of all that is ahead.
-use Rattle.std.proofs.Common.{◌≡◌, ℕ, suc, ◌+◌, ◌-◌, ◌^◌, ◌<◌, ◌≤◌, List, [], ◌∷◌, ◌++◌, take, drop, length, Option, Some, None, refl, ap, sym, ◌∙◌, subst, arith, inl, inr, append-nil, append_assoc, length-append, length-take, length-drop, min, take_at}
-use Rattle.std.specs.Prelude.{◌≢◌}
+use Rattle.std.proofs.Common.{◌≡◌, ℕ, ◌+◌, ◌-◌, ◌<◌, ◌≤◌, List, [], ◌∷◌, ◌++◌, take, drop, length, Option, Some, None, refl, ap, sym, ◌∙◌, subst, arith, inl, inr, append-nil, append_assoc, length-append, length-take, length-drop, min, take_at}
 use Rattle.std.proofs.Math.Seq.{take-append-add, drop-append-add, drop-append_seam}
 use Rattle.std.proofs.lemmas.List.{take-append-le}
 use Rattle.std.proofs.lemmas.Option.{same_Some, none-some}
@@ -10,10 +9,10 @@ use Rattle.czi_script.specs.declared.error.ScriptError.{ScriptError}
 use Rattle.czi_script.specs.declared.error.ScriptError.TheVariants.{Fault, Input as InputFailed, TooLong, Memory}
 use Rattle.czi_script.specs.declared.command.Command.{Command as CodeCommand}
 use Rattle.czi_script.specs.declared.lines.Front.TheVariants.{Line}
-use Rattle.czi_script.specs.Script.{Command, Free, IsLine, Spells, FirstLine, IsWrong, IsFault, Shows, Finds, Next, Ended, Wrong, Beyond}
+use Rattle.czi_script.specs.Script.{Command, Free, IsLine, Spells, FirstLine, IsWrong, IsFault, Shows, Finds, Beyond}
 use Rattle.czi_script.specs.View.{command_of}
 use Rattle.czi_script.specs.Reader.{Reader, IsReader, ahead, used, room, limit, FindsError, LeavesError, Takes, lost_by}
-use Rattle.czi_script.specs.Pieces.{IsFront, TookOn, AtEnd, GoesOn, Lines, LineFault, LineStops, UsesLine, RefusesLine}
+use Rattle.czi_script.specs.Pieces.{IsFront, TookOn, GoesOn, Lines, LineFault, LineStops, UsesLine, RefusesLine}
 
 -- A front of the bytes that has as many as may be taken holds all that is held.
 room_front : (h rest : List ℕ) (r : ℕ) → length h ≤ r → take r (h ++ rest) ≡ h ++ take (r - length h) rest

@@ -1,10 +1,10 @@
 -- Steps of a reader inside the reading of one command.
-use Rattle.std.proofs.Common.{◌≡◌, ℕ, suc, ◌+◌, ◌-◌, ◌<◌, ◌≤◌, List, [], ◌∷◌, ◌++◌, take, drop, length, Bool, true, false, Option, Some, None, refl, ap, sym, ◌∙◌, subst, arith, append-nil, append_assoc, length-append, inl, inr}
+use Rattle.std.proofs.Common.{◌≡◌, ℕ, ◌+◌, ◌<◌, List, [], ◌++◌, length, true, false, Option, None, refl, ap, sym, ◌∙◌, subst, arith, append-nil, append_assoc, length-append, inl, inr}
 use Rattle.std.specs.Prelude.{◌≢◌}
 use Rattle.czi_script.specs.declared.kind.Kind.TheVariants.{Cut, Long}
 use Rattle.czi_script.specs.Script.{Free, IsFault}
-use Rattle.czi_script.specs.Reader.{Reader, ahead, used, room, limit}
-use Rattle.czi_script.specs.Pieces.{Adds, TookOn, AtEnd, Fills, Lines, LineFault}
+use Rattle.czi_script.specs.Reader.{Reader}
+use Rattle.czi_script.specs.Pieces.{TookOn, AtEnd, Fills, Lines, LineFault}
 
 -- no byte was taken
 pub took_nothing : (r : Reader) (before after : Option (List ℕ)) → after ≡ before → TookOn r r before after []

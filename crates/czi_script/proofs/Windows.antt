@@ -1,5 +1,5 @@
 -- Pieces of a buffer.
-use Rattle.std.proofs.Common.{◌≡◌, ℕ, zero, suc, ◌+◌, ◌-◌, ◌<◌, ◌≤◌, List, [], ◌∷◌, ◌++◌, take, drop, length, refl, ap, sym, ◌∙◌, subst, arith, Option, Some, Result, Ok, Err, take_at, drop-drop, length-take, take-append-drop, None, min, true, false}
+use Rattle.std.proofs.Common.{◌≡◌, ℕ, ◌+◌, ◌-◌, ◌≤◌, List, [], ◌∷◌, ◌++◌, take, drop, length, refl, ap, sym, ◌∙◌, arith, Option, Some, Result, Ok, Err, take_at, drop-drop, length-take, take-append-drop, None, min, true, false}
 use Rattle.std.specs.Prelude.{slice_range, OnErr, is_some}
 use Rattle.std.proofs.lemmas.Option.{same_Some}
 use Rattle.std.proofs.Math.Seq.{take-append-add, drop-nil}
@@ -8,7 +8,7 @@ use Rattle.std.specs.Vec.{with_items}
 use Rattle.std.specs.declared.vec.Vec.{Vec}
 use Rattle.std.proofs.lemmas.Grind.{common_steps}
 use Rattle.czi_rig.specs.Source.{Takes}
-use Rattle.czi_script.specs.Pieces.{Added, Adds, AtEnd, GoesOn}
+use Rattle.czi_script.specs.Pieces.{Added, AtEnd, GoesOn}
 
 pub on_err : {T E Q : Type 0} (r : Result T E) → Q → OnErr r Q
 on_err (Ok x) q = tt

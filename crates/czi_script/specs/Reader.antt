@@ -1,13 +1,11 @@
 -- What a reader of scripts shows, and what reading a command does.
 use Rattle.std.specs.Prelude.{◌≡◌, ℕ, ◌+◌, ◌-◌, ◌^◌, ◌≤◌, List, [], ◌++◌, drop, length, Option, Some, None, option_map, Result, Ok, Err}
 use Rattle.std.specs.Option.{ForSome}
-use Rattle.czi_rig.specs.Source.{Input}
 use Rattle.czi_rig.specs.Passes.{Rose}
 use Rattle.czi_script.specs.declared.command.Command.{Command as CodeCommand}
-use Rattle.czi_script.specs.declared.kind.Kind.{Kind}
 use Rattle.czi_script.specs.declared.error.ScriptError.{ScriptError}
 use Rattle.czi_script.specs.declared.error.ScriptError.TheVariants.{Fault, Input as InputFailed, TooLong, Memory}
-use Rattle.czi_script.specs.Script.{Found, Next, Ended, Wrong, Beyond, Finds, Spells}
+use Rattle.czi_script.specs.Script.{Next, Ended, Wrong, Beyond, Finds, Spells}
 use Rattle.czi_script.specs.View.{command_of}
 
 -- the bytes that were taken and are not used yet, how many were taken in all, how many commands were read, and the error

@@ -1,6 +1,6 @@
 -- Edit scripts: a list of commands, each of which is one line that ends with a line feed. A line is a word and fields
 -- ` name=value`, each after one space.
-use Rattle.std.specs.Prelude.{◌≡◌, ◌≢◌, ◌⊎◌, ℕ, ◌+◌, ◌<◌, ◌≤◌, List, [], ◌∷◌, ◌++◌, take, drop, length, Bool, not, ◌==◌, IsTrue, IsFalse, codes, bytes_eq}
+use Rattle.std.specs.Prelude.{◌≡◌, ◌≢◌, ◌⊎◌, ℕ, ◌+◌, ◌<◌, ◌≤◌, List, [], ◌∷◌, ◌++◌, take, length, Bool, not, ◌==◌, IsTrue, IsFalse, codes, bytes_eq}
 use Rattle.std.specs.List.{AllByRecursion, list_any, prefix_len}
 use Rattle.czi_format.specs.Entry.{Dim}
 use Rattle.czi_doc.specs.DimText.{IsDimText}

@@ -1,4 +1,4 @@
-use Rattle.std.proofs.Common.{◌≡◌, ◌≤◌, take, length, arith, sym, subst, ◌∙◌}
+use Rattle.std.proofs.Common.{arith}
 use Rattle.std.proofs.lemmas.Grind.{common_steps}
 use Rattle.czi_script.proofs.Bytes.{first_in_front, no_line, started}
 use Rattle.czi_script.proofs.lines.front_of.Goals as goal

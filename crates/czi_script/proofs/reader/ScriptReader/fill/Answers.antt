@@ -1,5 +1,4 @@
-use Rattle.std.proofs.Common.{◌≡◌, [], true, false, refl, sym, ◌∙◌, arith}
-use Rattle.czi_script.proofs.Steps.{took_nothing, full_fills}
+use Rattle.czi_script.proofs.Steps.{full_fills}
 use Rattle.czi_script.proofs.reader.ScriptReader.fill.Goals as goal
 
 pub returns-then-room-eq0-clause-fills : goal.returns-then-room-eq0-clause-fills

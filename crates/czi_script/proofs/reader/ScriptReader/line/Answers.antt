@@ -1,5 +1,5 @@
-use Rattle.std.proofs.Common.{◌≡◌, ◌<◌, ◌^◌, sym, ap, ◌∙◌, arith}
-use Rattle.czi_script.proofs.Steps.{long_fault, cut_fault, no_more}
+use Rattle.std.proofs.Common.{ap, ◌∙◌}
+use Rattle.czi_script.proofs.Steps.{long_fault}
 use Rattle.czi_script.proofs.reader.ScriptReader.line.Goals as goal
 
 pub returns-in-Long-clause-stops : goal.returns-in-Long-clause-stops

@@ -1,4 +1,3 @@
-use Rattle.std.proofs.Common.{◌≡◌, sym, ap, ◌∙◌, arith}
 use Rattle.std.proofs.lemmas.Result.{err_from_is_err_and}
 use Rattle.czi_script.proofs.Shown.{finds_stopped, leaves_stopped, takes_stopped, finds_refused, found_next}
 use Rattle.czi_script.proofs.reader.ScriptReader.read.Goals as goal

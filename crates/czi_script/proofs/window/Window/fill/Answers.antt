@@ -1,4 +1,4 @@
-use Rattle.std.proofs.Common.{◌≡◌, ◌<◌, ◌≤◌, ◌-◌, ◌+◌, ◌++◌, length, min, sym, ap, ◌∙◌, arith}
+use Rattle.std.proofs.Common.{◌≡◌, ◌<◌, ◌-◌, ◌+◌, length, sym, arith}
 use Rattle.std.specs.Vec.{with_items}
 use Rattle.czi_script.proofs.Windows.{held_still, kept_in, added_in}
 use Rattle.czi_script.proofs.window.Window.fill.Goals as goal

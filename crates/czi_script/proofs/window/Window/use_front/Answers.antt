@@ -1,4 +1,4 @@
-use Rattle.std.proofs.Common.{◌≡◌, ◌≤◌, ◌-◌, ◌+◌, length, drop, slice_range, ap, ◌∙◌, arith}
+use Rattle.std.proofs.Common.{◌≡◌, ◌-◌, length, drop, slice_range, ap, ◌∙◌, arith}
 use Rattle.czi_script.proofs.Windows.{later_front, piece_len}
 use Rattle.czi_script.proofs.window.Window.use_front.Goals as goal
 
