@@ -11,7 +11,7 @@ use Rattle.czi_script.specs.declared.lines.Refusal.TheVariants.{Kind as OfKind, 
 use Rattle.czi_script.specs.declared.lines.Front.{Front}
 use Rattle.czi_script.specs.declared.lines.Front.TheVariants.{Line, Long as TooFar, Part}
 use Rattle.czi_script.specs.Script.{Free, IsLine, IsWrong, IsFault}
-use Rattle.czi_script.specs.Reader.{Reader, limit}
+use Rattle.czi_script.specs.Reader.{Reader, HoldsNoLine, limit}
 use Rattle.czi_script.specs.View.{command_of}
 
 -- what stands in front of the bytes
@@ -59,11 +59,6 @@ EndsLine before after InputFailed = after ≡ before
 EndsLine before after TooLong = GoesOn before after
 EndsLine before after Memory = ⊥
 
--- nothing stands in front of the bytes that are held but the beginning of a line
-pub record Unfinished (r : Reader) : Type 0 where
-  pub short : length r.held < 4096
-  pub free : Free 10 r.held
-
 -- More bytes were taken, at least one of them where the input isn't at its end.
 pub record Fills (old new : Reader) (before after : Option (List ℕ)) (some : Bool) : Type 0 where
   pub more : List ℕ
@@ -98,13 +93,14 @@ pub record LineFault (old new : Reader) (before after : Option (List ℕ)) (numb
 pub record LineFails (old new : Reader) (before after : Option (List ℕ)) : Type 0 where
   pub more : List ℕ
   pub took : TookOn old new before after more
+  pub unfinished : HoldsNoLine new
 
 pub record LinePasses (old new : Reader) (before after : Option (List ℕ)) : Type 0 where
   pub more : List ℕ
   pub middle : Option (List ℕ)
   pub took : TookOn old new before middle more
   pub full : new.taken ≡ limit
-  pub unfinished : Unfinished new
+  pub unfinished : HoldsNoLine new
   pub goes_on : GoesOn middle after
 
 abbrev pub LineStops : Reader → Reader → Option (List ℕ) → Option (List ℕ) → ScriptError → Type 0

@@ -1,11 +1,11 @@
 -- What a reader of scripts shows, and what reading a command does.
-use Rattle.std.specs.Prelude.{◌≡◌, ℕ, ◌+◌, ◌-◌, ◌^◌, ◌≤◌, List, [], ◌++◌, drop, length, Option, Some, None, option_map, Result, Ok, Err}
+use Rattle.std.specs.Prelude.{◌≡◌, ℕ, ◌+◌, ◌-◌, ◌^◌, ◌<◌, ◌≤◌, List, [], ◌++◌, drop, length, Option, Some, None, option_map, Result, Ok, Err}
 use Rattle.std.specs.Option.{ForSome}
 use Rattle.czi_rig.specs.Passes.{Rose}
 use Rattle.czi_script.specs.declared.command.Command.{Command as CodeCommand}
 use Rattle.czi_script.specs.declared.error.ScriptError.{ScriptError}
 use Rattle.czi_script.specs.declared.error.ScriptError.TheVariants.{Fault, Input as InputFailed, TooLong, Memory}
-use Rattle.czi_script.specs.Script.{Next, Ended, Wrong, Beyond, Finds, Spells}
+use Rattle.czi_script.specs.Script.{Free, Next, Ended, Wrong, Beyond, Finds, Spells}
 use Rattle.czi_script.specs.View.{command_of}
 
 -- the bytes that were taken and are not used yet, how many were taken in all, how many commands were read, and the error
@@ -72,11 +72,17 @@ abbrev pub Leaves : Reader → Reader → List ℕ → Option (List ℕ) → Res
 Leaves old new bytes after (Ok found) = LeavesSome old new bytes after found
 Leaves old new bytes after (Err error) = LeavesError old new bytes after error
 
--- The numbers of commands: one more was read where one is answered, and the number of a fault is the next one.
+-- no whole line is among the bytes that are held
+pub record HoldsNoLine (r : Reader) : Type 0 where
+  pub short : length r.held < 4096
+  pub free : Free 10 r.held
+
+-- The numbers of commands: one more was read where one is answered, and the number of a fault is the next one. Where the
+-- input failed, or goes on behind the limit, each command was read whose bytes were taken.
 abbrev pub CountsError : Reader → ScriptError → Type 0
 CountsError r (Fault number kind) = number ≡ r.commands + 1
-CountsError r InputFailed = Unit {0}
-CountsError r TooLong = r.taken ≡ limit
+CountsError r InputFailed = HoldsNoLine r
+CountsError r TooLong = (r.taken ≡ limit) × HoldsNoLine r
 CountsError r Memory = Unit {0}
 
 abbrev pub CountsSome : Reader → Reader → Option CodeCommand → Type 0
