@@ -1,6 +1,7 @@
 -- Bytes up to the first of one value.
-use Rattle.std.proofs.Common.{◌≡◌, ℕ, zero, suc, ◌+◌, ◌<◌, ◌≤◌, List, [], ◌∷◌, ◌++◌, take, drop, length, true, false, ◌==◌, refl, ap, sym, ◌∙◌, subst, arith, inl, inr, length-take, take_all, min}
-use Rattle.std.proofs.lemmas.Bool.{cases_Bool, eqb-true, eqb-false}
+use Rattle.std.proofs.Common.{◌≡◌, ℕ, zero, suc, ◌+◌, ◌-◌, ◌<◌, ◌≤◌, List, [], ◌∷◌, ◌++◌, take, drop, length, true, false, ◌==◌, refl, ap, sym, ◌∙◌, subst, arith, inl, inr, length-take, take-take, take_all, min}
+use Rattle.std.proofs.lemmas.List.{take_rest}
+use Rattle.std.proofs.lemmas.Bool.{cases_Bool, eqb-true, eqb-false, ne_eqb}
 use Rattle.czi_script.specs.Script.{Free, len_before}
 
 len_here : (b x : ℕ) (xs : List ℕ) → (x == b) ≡ true → len_before b (x ∷ xs) ≡ 0
@@ -141,3 +142,23 @@ started b most m n bytes m_is e inside le some =
   where
     small : length (take m bytes) ≡ min m (length bytes) → length bytes < most
     small h = grind arith
+
+-- the bytes before the first b, where some were seen before
+seen_before : (b seen : ℕ) (bytes : List ℕ) → seen ≤ length bytes → Free b (take seen bytes) → seen + len_before b (drop seen bytes) ≡ len_before b bytes
+seen_before b zero bytes le free = nothing (len_before b bytes)
+  where
+    nothing : (n : ℕ) → 0 + n ≡ n
+    nothing n = omega arith
+seen_before b (suc seen) [] le free = absurd (omega arith)
+seen_before b (suc seen) (x ∷ bytes) le free =
+    let more : seen + len_before b (drop seen bytes) ≡ len_before b bytes = seen_before b seen bytes (omega arith) free.1 in
+    let on : len_before b (x ∷ bytes) ≡ 1 + len_before b bytes = len_on b x bytes (ne_eqb x b free.0) in
+    omega (arith, more, on)
+
+-- the bytes that were seen are in the front too
+seen_front : (b seen m : ℕ) (bytes : List ℕ) → seen ≤ m → seen ≤ length bytes → Free b (take seen bytes) → seen + len_before b (drop seen (take m bytes)) ≡ len_before b (take m bytes)
+seen_front b seen m bytes le inside free =
+    seen_before b seen (take m bytes) (let n : length (take m bytes) ≡ min m (length bytes) = length-take m bytes in omega (arith, n)) (subst (Free b) (sym (take-take seen m bytes le)) free)
+
+pub seen_len : (b seen m n : ℕ) (bytes : List ℕ) → n ≡ len_before b (take (length (take m bytes) - seen) (drop seen (take m bytes))) → seen ≤ m → seen ≤ length bytes → Free b (take seen bytes) → seen + n ≡ len_before b (take m bytes)
+seen_len b seen m n bytes e le inside free = ap (λ k. seen + k) (e ∙ ap (len_before b) (take_rest (take m bytes) seen)) ∙ seen_front b seen m bytes le inside free

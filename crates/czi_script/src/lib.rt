@@ -17,3 +17,6 @@ pub use laws::{
     reading_goes_on,
 };
 pub use reader::ScriptReader;
+
+#[cfg(test)]
+mod tests;

@@ -1,8 +1,8 @@
 //! One line of a script.
 
-ghost use Rattle.std.specs.Prelude.{◌≡◌, ◌≢◌, [], ◌⊎◌, ◌++◌, ◌≤◌, ℕ, List, length, take, drop, not, ◌==◌, IsTrue, IsFalse, codes, bytes_eq, MatchResult};
+ghost use Rattle.std.specs.Prelude.{◌≡◌, ◌≢◌, [], ◌⊎◌, ◌++◌, ◌<◌, ◌≤◌, ℕ, List, length, take, drop, not, ◌==◌, IsTrue, IsFalse, codes, bytes_eq, MatchResult};
 ghost use Rattle.std.specs.List.{list_any};
-ghost use Rattle.czi_script.specs.Script.{word, is_among, later_words, len_before, IsLine};
+ghost use Rattle.czi_script.specs.Script.{Free, word, is_among, later_words, len_before, IsLine};
 ghost use Rattle.czi_script.specs.View.{command_of};
 ghost use Rattle.czi_script.specs.Pieces.{IsFront, Refuses};
 
@@ -42,12 +42,15 @@ fn len_before(end: u8, bytes: &[u8]) -> usize
     bytes.iter().take_while(|byte| **byte != end).count()
 }
 
-/// What stands in front of the bytes.
-pub(crate) fn front_of(bytes: &[u8]) -> Front
+/// What stands in front of the bytes. The first `seen` of them were looked at before, and are no line feed.
+pub(crate) fn front_of(bytes: &[u8], seen: usize) -> Front
+    requires inside { seen ≤ length bytes.now }
+    requires few { seen < 4096 }
+    requires free { Free 10 (take seen bytes.now) }
     ensures { IsFront bytes.now result }
 {
     let front = &bytes[..bytes.len().min(LINE)];
-    let len = len_before(b'\n', front);
+    let len = seen + len_before(b'\n', &front[seen..]);
     if len < front.len() {
         Front::Line(len)
     } else if len == LINE {

@@ -137,11 +137,12 @@ impl ScriptReader {
         ensures later { (S.input input.old).faults ≤ (S.input input.new).faults }
         ensures cause { IfErr result (CausesError (S.input input.old).faults (S.input input.new).faults) }
     {
+        let mut seen = 0;
         loop {
-            match front_of(self.window.held()) {
+            match front_of(self.window.held(), seen) {
                 Front::Line(len) => return Ok(Some(len)),
                 Front::Long => return Err(self.fault(Kind::Long)),
-                Front::Part => {}
+                Front::Part => seen = self.window.held().len(),
             }
             if !self.fill(input)? {
                 return self.end();
