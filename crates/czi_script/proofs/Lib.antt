@@ -4,4 +4,6 @@ pub mod Windows
 pub mod Steps
 pub mod Shown
 pub mod Grammar
+pub mod Faults
 pub mod Reading
+pub mod Found

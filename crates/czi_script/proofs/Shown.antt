@@ -11,7 +11,7 @@ use Rattle.czi_script.specs.declared.command.Command.{Command as CodeCommand}
 use Rattle.czi_script.specs.declared.lines.Front.TheVariants.{Line}
 use Rattle.czi_script.specs.Script.{Command, Free, IsLine, Spells, FirstLine, IsWrong, IsFault, Shows, Finds, Beyond}
 use Rattle.czi_script.specs.View.{command_of}
-use Rattle.czi_script.specs.Reader.{Reader, IsReader, ahead, used, room, limit, FindsError, LeavesError, Takes, lost_by}
+use Rattle.czi_script.specs.Reader.{Reader, IsReader, ahead, used, room, limit, FindsError, LeavesError, TakesFirst, lost_by}
 use Rattle.czi_script.specs.Pieces.{IsFront, TookOn, GoesOn, Lines, LineFault, LineStops, UsesLine, RefusesLine}
 
 -- A front of the bytes that has as many as may be taken holds all that is held.
@@ -146,7 +146,7 @@ leaves_stopped old new before after TooLong bytes f is =
     behind h b rest = drop-append-add h (b ∷ rest) 1
 leaves_stopped old new before after Memory bytes f is = absurd f
 
-takes_line : (old new : Reader) (before after : Option (List ℕ)) (more : List ℕ) → TookOn old new before after more → Takes old new before after 0
+takes_line : (old new : Reader) (before after : Option (List ℕ)) (more : List ℕ) → TookOn old new before after more → TakesFirst old new before after 0
 takes_line old new before after more t = record {
   later = omega (arith, t.taken);
   inside = λ left is. let x = t.adds.left left is in inside left x.0 x.1;
@@ -162,7 +162,7 @@ takes_line old new before after more t = record {
     rest_is : (left rest : List ℕ) → left ≡ more ++ rest → rest ≡ drop ((new.taken - old.taken) + 0) left
     rest_is left rest e = sym (ap (λ k. drop k left) gone ∙ ap (drop (length more)) e ∙ drop-append_seam more rest)
 
-takes_one : (old new : Reader) (before middle after : Option (List ℕ)) (more : List ℕ) → TookOn old new before middle more → GoesOn middle after → Takes old new before after 1
+takes_one : (old new : Reader) (before middle after : Option (List ℕ)) (more : List ℕ) → TookOn old new before middle more → GoesOn middle after → TakesFirst old new before after 1
 takes_one old new before middle after more t goes = record {
   later = omega (arith, t.taken);
   inside = λ left is. let x = t.adds.left left is in let g = goes x.0 x.2 in inside left g.1 g.0 (x.1 ∙ ap (λ l. more ++ l) g.2);
@@ -178,7 +178,7 @@ takes_one old new before middle after more t goes = record {
     rest_is : (left rest : List ℕ) (b : ℕ) → left ≡ more ++ b ∷ rest → rest ≡ drop ((new.taken - old.taken) + 1) left
     rest_is left rest b e = sym (ap (λ k. drop k left) gone ∙ ap (drop (length more + 1)) e ∙ drop-append-add more (b ∷ rest) 1)
 
-pub takes_stopped : (old new : Reader) (before after : Option (List ℕ)) (error : ScriptError) → LineStops old new before after error → Takes old new before after (lost_by error)
+pub takes_stopped : (old new : Reader) (before after : Option (List ℕ)) (error : ScriptError) → LineStops old new before after error → TakesFirst old new before after (lost_by error)
 takes_stopped old new before after (Fault number kind) f = takes_line old new before after f.more f.took
 takes_stopped old new before after InputFailed f = takes_line old new before after f.more f.took
 takes_stopped old new before after TooLong f = takes_one old new before f.middle after f.more f.took f.goes_on

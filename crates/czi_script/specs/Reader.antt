@@ -117,7 +117,7 @@ lost (Ok found) = 0
 lost (Err error) = lost_by error
 
 -- The bytes that are taken are the first that the input has left. All of them are counted, but for one behind the limit.
-pub record Takes (old new : Reader) (before after : Option (List ℕ)) (more : ℕ) : Type 0 where
+pub record TakesFirst (old new : Reader) (before after : Option (List ℕ)) (more : ℕ) : Type 0 where
   pub later : old.taken ≤ new.taken
   pub inside : ForSome before (λ left. (new.taken - old.taken) + more ≤ length left)
   pub rest : ForSome before (λ left. after ≡ Some (drop ((new.taken - old.taken) + more) left))

@@ -60,7 +60,8 @@ is_among words w = list_any (bytes_eq w) words
 abbrev pub HasFields : List ℕ → Type 0
 HasFields line = ((value : List ℕ) × (line ≡ codes "remove dims=" ++ value) × Free 32 value) ⊎ ((line ≡ codes "list") ⊎ (line ≡ codes "info"))
 
--- Why a whole line is no command. The kinds of what comes before and behind a line are none of these.
+-- Why a whole line is no command: its word is none of the format's or isn't built yet, its fields aren't right, or a value
+-- of them isn't of its form.
 abbrev pub IsWrong : Kind → List ℕ → Type 0
 IsWrong Cut line = ⊥
 IsWrong Long line = ⊥
@@ -70,7 +71,8 @@ IsWrong Field line = IsTrue (is_among built_words (word line)) × (HasFields lin
 IsWrong Value line = HasFields line × ((c : Command) → IsLine c line → ⊥)
 IsWrong Tail line = ⊥
 
--- Why the bytes begin with no command. A line is read whole before its word is looked at.
+-- Why the bytes begin with no command: they end within a line, the line is too long, or it is none. A line is read whole
+-- before its word is looked at.
 abbrev pub IsFault : Kind → List ℕ → Type 0
 IsFault Cut bytes = (bytes ≢ []) × Free 10 bytes × (length bytes < 4096)
 IsFault Long bytes = (4096 ≤ length bytes) × Free 10 (take 4096 bytes)
@@ -85,7 +87,7 @@ pub data End : Type 0 where
   Done : End
   Fault : ℕ → Kind → End
 
--- behind the commands, of which there were so many less one, this rest is left
+-- How a script ends whose commands leave this rest, where the command after them has this number.
 abbrev pub IsEnd : ℕ → List ℕ → End → Type 0
 IsEnd number rest Done = rest ≡ []
 IsEnd number rest (Fault n kind) = (n ≡ number) × IsFault kind rest
@@ -108,18 +110,20 @@ pub record Reads (first : ℕ) (bytes : List ℕ) (cs : List Command) (end : End
   pub stuck : NoneBegins rest
   pub ends : IsEnd (first + length cs) rest end
 
--- What the bytes ahead give, where the first so many of them may be taken: a command, the end, a fault, or no answer since
--- they don't suffice and more follow.
+-- What stands next in a script of which only so many bytes may be looked at: a command, its end, a fault, or none of these,
+-- since those bytes don't suffice and it goes on.
 pub data Found : Type 0 where
   Next : Command → Found
   Ended : Found
   Wrong : Kind → Found
   Beyond : Found
 
--- A fault shows among the first so many bytes: there are no more, or every continuation of these has it.
+-- A fault shows in the first so many bytes: there are no more, or every continuation of these has it.
 abbrev pub Shows : ℕ → Kind → List ℕ → Type 0
 Shows room kind bytes = ((length bytes ≤ room) × IsFault kind bytes) ⊎ ((more : List ℕ) → IsFault kind (take room bytes ++ more))
 
+-- The command's spelling is among these bytes, or nothing is left, or the fault shows in them. They don't suffice where more
+-- follow, and they are less than a line.
 abbrev pub Finds : ℕ → List ℕ → Found → Type 0
 Finds room bytes (Next c) = (spelled more : List ℕ) × (bytes ≡ spelled ++ more) × Spells c spelled × (length spelled ≤ room)
 Finds room bytes Ended = bytes ≡ []

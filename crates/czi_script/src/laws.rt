@@ -45,10 +45,11 @@ pub fn reading_goes_on()
         → (cs ≡ []) × (end ≡ End.Fault first kind) }
 {}
 
-/// A fault that shows behind commands, where so many bytes may be taken in all, shows in the whole script: it has no
-/// more bytes, or every script that begins with as many of them has this fault.
+/// A fault that shows in so many bytes is that of all. Where it shows behind commands, with so many bytes for both, it
+/// shows in the whole script: that has no more bytes, or every script that begins with as many of them has this fault.
 pub fn faults_show()
-    ensures { (most : ℕ) (front bytes : List ℕ) (cs : List Cmd) (kind : FaultKind) → SpellAll cs front → length front ≤ most → Shows (most - length front) kind bytes
+    ensures there { (room : ℕ) (bytes : List ℕ) (kind : FaultKind) → Shows room kind bytes → IsFault kind bytes }
+    ensures whole { (most : ℕ) (front bytes : List ℕ) (cs : List Cmd) (kind : FaultKind) → SpellAll cs front → length front ≤ most → Shows (most - length front) kind bytes
         → ((length (front ++ bytes) ≤ most) × Reads 1 (front ++ bytes) cs (End.Fault (1 + length cs) kind))
         ⊎ ((more : List ℕ) → Reads 1 (take most (front ++ bytes) ++ more) cs (End.Fault (1 + length cs) kind)) }
 {}

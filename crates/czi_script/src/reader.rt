@@ -2,7 +2,7 @@
 
 ghost use Rattle.std.specs.Prelude.{◌≡◌, ◌≢◌, ◌+◌, ◌-◌, ◌^◌, ◌<◌, ◌≤◌, ℕ, List, [], length, is_some, IfOk, IfErr, IfSome, OnOk, OnErr};
 ghost use Rattle.std.specs.Option.{ForSome};
-ghost use Rattle.czi_script.specs.Reader.{Reader, IsReader, unused, ahead, FindsThere, Leaves, Counts, CausesError, Takes, lost, kept};
+ghost use Rattle.czi_script.specs.Reader.{Reader, IsReader, unused, ahead, FindsThere, Leaves, Counts, CausesError, TakesFirst, lost, kept};
 ghost use Rattle.czi_script.specs.Pieces.{IsFront, AtEnd, GoesOn, Fills, FillStops, Lines, LineStops, UsesLine, RefusesLine, EndsLine};
 
 use crate::command::Command;
@@ -90,7 +90,7 @@ impl ScriptReader {
         self.error = Some(error);
     }
 
-    /// Takes more bytes. False at the end of the input.
+    /// TakesFirst more bytes. False at the end of the input.
     fn fill<S: Source>(&mut self, input: &mut S) -> Result<bool, ScriptError>
         requires { length self.old.held < 4096 }
         ensures fills { IfOk result (Fills self.old self.new (S.input input.old).left (S.input input.new).left) }
@@ -127,7 +127,7 @@ impl ScriptReader {
         }
     }
 
-    /// Takes bytes until a whole line stands in front, and answers how long it is without its line feed. None at
+    /// TakesFirst bytes until a whole line stands in front, and answers how long it is without its line feed. None at
     /// the end of the input behind a whole line.
     fn line<S: Source>(&mut self, input: &mut S) -> Result<Option<usize>, ScriptError>
         ensures lines { IfOk result (Lines self.old self.new (S.input input.old).left (S.input input.new).left) }
@@ -173,7 +173,7 @@ impl ScriptReader {
     fn read<S: Source>(&mut self, input: &mut S) -> Result<Option<Command>, ScriptError>
         ensures finds { ForSome (ahead self.old (S.input input.old).left) (λ bytes. FindsThere self.old bytes result) }
         ensures leaves { ForSome (ahead self.old (S.input input.old).left) (λ bytes. Leaves self.old self.new bytes (ahead self.new (S.input input.new).left) result) }
-        ensures takes { Takes self.old self.new (S.input input.old).left (S.input input.new).left (lost result) }
+        ensures takes { TakesFirst self.old self.new (S.input input.old).left (S.input input.new).left (lost result) }
         ensures counts { Counts self.old self.new result }
         ensures sound { IsReader self.new }
         ensures error { self.new.error ≡ self.old.error }
@@ -200,7 +200,7 @@ impl ScriptReader {
     pub fn next<S: Source>(&mut self, input: &mut S) -> Result<Option<Command>, ScriptError>
         ensures finds { self.old.error ≡ None → ForSome (ahead self.old (S.input input.old).left) (λ bytes. FindsThere self.old bytes result) }
         ensures leaves { self.old.error ≡ None → ForSome (ahead self.old (S.input input.old).left) (λ bytes. Leaves self.old self.new bytes (ahead self.new (S.input input.new).left) result) }
-        ensures takes { self.old.error ≡ None → Takes self.old self.new (S.input input.old).left (S.input input.new).left (lost result) }
+        ensures takes { self.old.error ≡ None → TakesFirst self.old self.new (S.input input.old).left (S.input input.new).left (lost result) }
         ensures counts { self.old.error ≡ None → Counts self.old self.new result }
         ensures cause { self.old.error ≡ None → IfErr result (CausesError (S.input input.old).faults (S.input input.new).faults) }
         ensures keeps { self.new.error ≡ kept result }

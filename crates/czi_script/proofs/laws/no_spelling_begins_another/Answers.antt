@@ -1,4 +1,4 @@
-use Rattle.czi_script.proofs.Reading.{spelled_once}
+use Rattle.czi_script.proofs.Faults.{spelled_once}
 use Rattle.czi_script.proofs.laws.no_spelling_begins_another.Goals as goal
 
 pub returns : goal.returns

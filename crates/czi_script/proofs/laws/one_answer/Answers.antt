@@ -1,4 +1,4 @@
-use Rattle.czi_script.proofs.Reading.{finds_some, finds_one}
+use Rattle.czi_script.proofs.Found.{finds_some, finds_one}
 use Rattle.czi_script.proofs.laws.one_answer.Goals as goal
 
 pub returns-clause-exists : goal.returns-clause-exists

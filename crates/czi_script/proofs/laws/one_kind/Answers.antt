@@ -1,4 +1,4 @@
-use Rattle.czi_script.proofs.Reading.{stuck_kind, one_kind, fault_some_bytes, fault_stuck}
+use Rattle.czi_script.proofs.Faults.{stuck_kind, one_kind, fault_some_bytes, fault_stuck}
 use Rattle.czi_script.proofs.laws.one_kind.Goals as goal
 
 pub returns-clause-exists : goal.returns-clause-exists
