@@ -7,7 +7,7 @@ use Rattle.std.proofs.lemmas.List.{take-append-le}
 use Rattle.std.proofs.Math.Seq.{take-append-add}
 use Rattle.czi_script.specs.declared.kind.Kind.{Kind}
 use Rattle.czi_script.specs.declared.kind.Kind.TheVariants.{Cut, Long, Word, Later, Field, Value, Tail}
-use Rattle.czi_script.specs.Script.{Command, Free, IsLine, Spells, FirstLine, len_before, IsWrong, IsFault, NoneBegins, Shows}
+use Rattle.czi_script.specs.Script.{Command, HasNo, IsLine, Spells, FirstLine, len_before, IsWrong, IsFault, NoneBegins, Shows}
 use Rattle.czi_script.proofs.Bytes.{SameParts, parted_once, held_in, free_front, all_free, FirstAt, first_at}
 use Rattle.czi_script.proofs.Shown.{fault_of_wrong}
 use Rattle.czi_script.proofs.Grammar.{line_free, one_command, not_both, kind_is, LineIs, line_is}
@@ -73,7 +73,7 @@ no_line (x ∷ line) more e = no_cons x (line ++ 10 ∷ more) e
 
 -- in which of three ways the bytes begin with no command
 abbrev pub Shape : Kind → List ℕ → Type 0
-Shape kind bytes = ((kind ≡ Cut) × Free 10 bytes × (length bytes < 4096)) ⊎ (((kind ≡ Long) × (4096 ≤ length bytes) × Free 10 (take 4096 bytes)) ⊎ ((line : List ℕ) × FirstLine line bytes × IsWrong kind line))
+Shape kind bytes = ((kind ≡ Cut) × HasNo 10 bytes × (length bytes < 4096)) ⊎ (((kind ≡ Long) × (4096 ≤ length bytes) × HasNo 10 (take 4096 bytes)) ⊎ ((line : List ℕ) × FirstLine line bytes × IsWrong kind line))
 
 pub shape : (kind : Kind) (bytes : List ℕ) → IsFault kind bytes → Shape kind bytes
 shape Cut bytes f = inl (refl, f.1, f.2)
@@ -94,17 +94,17 @@ fault_some Value f = no_line f.0 f.1.more (sym f.1.whole)
 fault_some Tail f = f
 
 -- a line feed among the first 4096 bytes
-early : (line more : List ℕ) → length line < 4096 → Free 10 (take 4096 (line ++ 10 ∷ more)) → ⊥
-early line more short free = held_in 10 line (take (4095 - length line) more) (subst (Free 10) (front (4096 - length line) (4095 - length line) (omega arith) (omega arith)) free)
+early : (line more : List ℕ) → length line < 4096 → HasNo 10 (take 4096 (line ++ 10 ∷ more)) → ⊥
+early line more short free = held_in 10 line (take (4095 - length line) more) (subst (HasNo 10) (front (4096 - length line) (4095 - length line) (omega arith) (omega arith)) free)
   where
     front : (n k : ℕ) → n ≡ suc k → 4096 ≡ length line + n → take 4096 (line ++ 10 ∷ more) ≡ line ++ 10 ∷ take k more
     front n k e f = ap (λ m. take m (line ++ 10 ∷ more)) f ∙ take-append-add line (10 ∷ more) n ∙ ap (λ m. line ++ take m (10 ∷ more)) e
 
-pub cut_not_line : (line bytes : List ℕ) → FirstLine line bytes → Free 10 bytes → ⊥
-cut_not_line line bytes f free = held_in 10 line f.more (subst (Free 10) f.whole free)
+pub cut_not_line : (line bytes : List ℕ) → FirstLine line bytes → HasNo 10 bytes → ⊥
+cut_not_line line bytes f free = held_in 10 line f.more (subst (HasNo 10) f.whole free)
 
-long_not_line : (line bytes : List ℕ) → FirstLine line bytes → Free 10 (take 4096 bytes) → ⊥
-long_not_line line bytes f free = early line f.more f.short (subst (λ b. Free 10 (take 4096 b)) f.whole free)
+long_not_line : (line bytes : List ℕ) → FirstLine line bytes → HasNo 10 (take 4096 bytes) → ⊥
+long_not_line line bytes f free = early line f.more f.short (subst (λ b. HasNo 10 (take 4096 b)) f.whole free)
 
 one_wrong : (k l : Kind) (a b bytes : List ℕ) → FirstLine a bytes → FirstLine b bytes → IsWrong k a → IsWrong l b → k ≡ l
 one_wrong k l a b bytes f g p q = kind_is k b (subst (IsWrong k) (same_line a b bytes f g) p) ∙ sym (kind_is l b q)
@@ -146,7 +146,7 @@ first_longer line bytes more f = record { more = f.more ++ more; whole = ap (λ 
 -- a fault that shows in a front is that of all, unless the front is cut
 pub fault_stays : (kind : Kind) (bytes more : List ℕ) → kind ≢ Cut → IsFault kind bytes → IsFault kind (bytes ++ more)
 fault_stays Cut bytes more other f = absurd (other refl)
-fault_stays Long bytes more other f = (let n : length (bytes ++ more) ≡ length bytes + length more = length-append bytes more in omega (arith, n, f.0), subst (Free 10) (sym (take-append-le 4096 bytes more f.0)) f.1)
+fault_stays Long bytes more other f = (let n : length (bytes ++ more) ≡ length bytes + length more = length-append bytes more in omega (arith, n, f.0), subst (HasNo 10) (sym (take-append-le 4096 bytes more f.0)) f.1)
 fault_stays Word bytes more other f = (f.0, first_longer f.0 bytes more f.1, f.2)
 fault_stays Later bytes more other f = (f.0, first_longer f.0 bytes more f.1, f.2)
 fault_stays Field bytes more other f = (f.0, first_longer f.0 bytes more f.1, f.2)
@@ -160,16 +160,16 @@ line_begins line bytes f is = elim is [
   | inr w ↦ inr (w.0, fault_of_wrong w.0 line bytes f w.1)
 ]
 
-free_take : (n : ℕ) (bytes : List ℕ) → Free 10 bytes → Free 10 (take n bytes)
-free_take n bytes free = free_front 10 (take n bytes) (drop n bytes) (subst (Free 10) (sym (take-append-drop n bytes)) free)
+free_take : (n : ℕ) (bytes : List ℕ) → HasNo 10 bytes → HasNo 10 (take n bytes)
+free_take n bytes free = free_front 10 (take n bytes) (drop n bytes) (subst (HasNo 10) (sym (take-append-drop n bytes)) free)
 
 -- where the first line feed is, or none
 pub data Begins (bytes : List ℕ) : Type 0 where
   Whole : (line : List ℕ) → FirstLine line bytes → Begins bytes
-  Far : 4096 ≤ length bytes → Free 10 (take 4096 bytes) → Begins bytes
-  Short : length bytes < 4096 → Free 10 bytes → Begins bytes
+  Far : 4096 ≤ length bytes → HasNo 10 (take 4096 bytes) → Begins bytes
+  Short : length bytes < 4096 → HasNo 10 bytes → Begins bytes
 
-none_free : (bytes : List ℕ) → Free 10 bytes → Begins bytes
+none_free : (bytes : List ℕ) → HasNo 10 bytes → Begins bytes
 none_free bytes free = elim (less_or (length bytes) 4096) [
   | inl lt ↦ Short lt free
   | inr le ↦ Far le (free_take 4096 bytes free)
@@ -178,7 +178,7 @@ none_free bytes free = elim (less_or (length bytes) 4096) [
 at_feed : (bytes : List ℕ) (n : ℕ) → n < length bytes → FirstAt 10 n bytes → Begins bytes
 at_feed bytes n lt f = elim (less_or n 4096) [
   | inl short ↦ Whole (take n bytes) (record { more = drop (n + 1) bytes; whole = f.whole; free = f.free; short = let m : length (take n bytes) ≡ min n (length bytes) = length-take n bytes in omega (arith, m, short) })
-  | inr far ↦ Far (omega (arith, far, lt)) (subst (Free 10) (take-take 4096 n bytes far) (free_take 4096 (take n bytes) f.free))
+  | inr far ↦ Far (omega (arith, far, lt)) (subst (HasNo 10) (take-take 4096 n bytes far) (free_take 4096 (take n bytes) f.free))
 ]
 
 pub begins : (bytes : List ℕ) → Begins bytes

@@ -4,7 +4,7 @@ use Rattle.std.specs.Prelude.{◌≢◌}
 use Rattle.std.proofs.Math.Seq.{take-append-add}
 use Rattle.czi_script.specs.declared.kind.Kind.{Kind}
 use Rattle.czi_script.specs.declared.kind.Kind.TheVariants.{Cut, Long}
-use Rattle.czi_script.specs.Script.{Command, Free, FirstLine, IsFault, Found, Next, Ended, Wrong, Beyond, Shows, Finds}
+use Rattle.czi_script.specs.Script.{Command, HasNo, FirstLine, IsFault, Found, Next, Ended, Wrong, Beyond, Shows, Finds}
 use Rattle.czi_script.proofs.Shown.{fault_of_wrong}
 use Rattle.czi_script.proofs.Grammar.{line_free, LineIs, line_is}
 use Rattle.czi_script.proofs.Faults.{less_or, no_cons, SameSpelling, spelled_once, spelled_some, spelled_len, parted, Shape, shape, fault_some, cut_not_line, one_kind, fault_stuck, first_longer, fault_stays, Begins, Whole, Far, Short, begins, begun, shown_fault}
@@ -22,8 +22,8 @@ not_beyond room kind bytes shows f = elim shows [
     fed : FirstLine (take room bytes) (take room bytes ++ 10 ∷ [])
     fed = record { more = []; whole = refl; free = f.1; short = omega (arith, size, f.2) }
 
-    whole_free : Free 10 (take room bytes ++ [])
-    whole_free = subst (Free 10) (sym (append-nil (take room bytes))) f.1
+    whole_free : HasNo 10 (take room bytes ++ [])
+    whole_free = subst (HasNo 10) (sym (append-nil (take room bytes))) f.1
 
     cut_only : Shape kind (take room bytes ++ []) → IsFault kind (take room bytes ++ 10 ∷ []) → ⊥
     cut_only s g = elim s [
@@ -106,7 +106,7 @@ line_found room bytes line f is = elim is [
     whole : bytes ≡ (line ++ 10 ∷ []) ++ (f.more ++ drop room bytes)
     whole = sym (take-append-drop room bytes) ∙ ap (λ l. l ++ drop room bytes) (f.whole ∙ sym (append_assoc line (10 ∷ []) f.more)) ∙ append_assoc (line ++ 10 ∷ []) f.more (drop room bytes)
 
-far_found : (room : ℕ) (bytes : List ℕ) → 4096 ≤ length (take room bytes) → Free 10 (take 4096 (take room bytes)) → SomeFound room bytes
+far_found : (room : ℕ) (bytes : List ℕ) → 4096 ≤ length (take room bytes) → HasNo 10 (take 4096 (take room bytes)) → SomeFound room bytes
 far_found room bytes far free = (Wrong Long, inr (λ more. fault_stays Long (take room bytes) more (λ e. apart e) (far, free)))
   where
     apart : Long ≡ Cut → ⊥

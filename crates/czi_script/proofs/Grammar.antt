@@ -12,7 +12,7 @@ use Rattle.czi_doc.proofs.Spelled.{found}
 use Rattle.czi_doc.proofs.ReadAgain.{only, only_fault}
 use Rattle.czi_script.specs.declared.kind.Kind.{Kind}
 use Rattle.czi_script.specs.declared.kind.Kind.TheVariants.{Cut, Long, Word, Later, Field, Value, Tail}
-use Rattle.czi_script.specs.Script.{Command, Remove, Listing, Info, Free, IsLine, len_before, word, built_words, later_words, is_among, HasFields, IsWrong}
+use Rattle.czi_script.specs.Script.{Command, Remove, Listing, Info, HasNo, IsLine, len_before, word, built_words, later_words, is_among, HasFields, IsWrong}
 use Rattle.czi_script.proofs.Bytes.{free_append, all_free, not_free}
 use Rattle.czi_script.proofs.LineKinds.{remove_not_list, remove_not_info, list_not_info, same_value, remove_value, fields_built}
 
@@ -45,11 +45,11 @@ no_space (digits n zero) = refl
 no_space (digits n (suc p)) = refl
 no_space dead = refl
 
-free_run : (b : ℕ) → ((s : Spot) → arrow s b ≡ dead) → (s : Spot) (text : List ℕ) → final (run s text) ≡ true → Free b text
+free_run : (b : ℕ) → ((s : Spot) → arrow s b ≡ dead) → (s : Spot) (text : List ℕ) → final (run s text) ≡ true → HasNo b text
 free_run b none s [] is = tt
 free_run b none s (c ∷ text) is = (λ e. no_truth (sym is ∙ ap final (ap (λ t. run t text) (ap (arrow s) e ∙ none s) ∙ run_dead text)), free_run b none (arrow s c) text is)
 
-text_free : (b : ℕ) → ((s : Spot) → arrow s b ≡ dead) → (text : List ℕ) (dims : List Dim) → IsDimText text dims → Free b text
+text_free : (b : ℕ) → ((s : Spot) → arrow s b ≡ dead) → (text : List ℕ) (dims : List Dim) → IsDimText text dims → HasNo b text
 text_free b none text dims is = free_run b none (fresh 39) text (items_run 39 text dims is.items (omega (arith, is.few)))
 
 same_dims : (text : List ℕ) (a b : List Dim) → IsDimText text a → IsDimText text b → a ≡ b
@@ -60,10 +60,10 @@ same_dims text a b p q = apart (items_at 40 text) a b (only 40 text a p.items p.
 
 -- a line spells one command, and has no line feed
 
-pub line_free : (c : Command) (line : List ℕ) → IsLine c line → Free 10 line
-line_free (Remove dims) line is = subst (Free 10) (sym is.1) (free_append 10 (codes "remove dims=") is.0 (all_free 10 (codes "remove dims=") (omega arith)) (text_free 10 no_feed is.0 dims is.2))
-line_free Listing line is = subst (Free 10) (sym is) (all_free 10 (codes "list") (omega arith))
-line_free Info line is = subst (Free 10) (sym is) (all_free 10 (codes "info") (omega arith))
+pub line_free : (c : Command) (line : List ℕ) → IsLine c line → HasNo 10 line
+line_free (Remove dims) line is = subst (HasNo 10) (sym is.1) (free_append 10 (codes "remove dims=") is.0 (all_free 10 (codes "remove dims=") (omega arith)) (text_free 10 no_feed is.0 dims is.2))
+line_free Listing line is = subst (HasNo 10) (sym is) (all_free 10 (codes "list") (omega arith))
+line_free Info line is = subst (HasNo 10) (sym is) (all_free 10 (codes "info") (omega arith))
 
 line_fields : (c : Command) (line : List ℕ) → IsLine c line → HasFields line
 line_fields (Remove dims) line is = inl (is.0, is.1, text_free 32 no_space is.0 dims is.2)
@@ -109,7 +109,7 @@ has_dims line = if bytes_eq (take 12 line) (codes "remove dims=") then (if is_sp
 abbrev pub has_fields : List ℕ → Bool
 has_fields line = has_dims line || (bytes_eq line (codes "list") || (bytes_eq line (codes "info") || false))
 
-value_is : (line : List ℕ) → has_dims line ≡ true → (value : List ℕ) × (line ≡ codes "remove dims=" ++ value) × Free 32 value
+value_is : (line : List ℕ) → has_dims line ≡ true → (value : List ℕ) × (line ≡ codes "remove dims=" ++ value) × HasNo 32 value
 value_is line e = elim (cases_Bool (bytes_eq (take 12 line) (codes "remove dims="))) [
   | inl t ↦ elim (cases_Bool (is_spaced (drop 12 line))) [
     | inl s ↦ absurd (no_truth (sym e ∙ spaced t s))
@@ -124,7 +124,7 @@ value_is line e = elim (cases_Bool (bytes_eq (take 12 line) (codes "remove dims=
     other : bytes_eq (take 12 line) (codes "remove dims=") ≡ false → has_dims line ≡ false
     other t = rw t
 
-value_has : (line value : List ℕ) → line ≡ codes "remove dims=" ++ value → Free 32 value → has_dims line ≡ true
+value_has : (line value : List ℕ) → line ≡ codes "remove dims=" ++ value → HasNo 32 value → has_dims line ≡ true
 value_has line value e free = ap has_dims e ∙ there (elim (cases_Bool (is_spaced value)) [
   | inl s ↦ absurd (not_free 32 value (grind (arith, nat_tests)) free)
   | inr s ↦ s
@@ -181,7 +181,7 @@ kind_is Tail line w = absurd w
 abbrev pub LineIs : List ℕ → Type 0
 LineIs line = ((c : Command) × IsLine c line) ⊎ ((kind : Kind) × IsWrong kind line)
 
-text_is : (line value : List ℕ) → line ≡ codes "remove dims=" ++ value → Free 32 value → (r : Result (List Dim) ℕ) → items_at 40 value ≡ r → LineIs line
+text_is : (line value : List ℕ) → line ≡ codes "remove dims=" ++ value → HasNo 32 value → (r : Result (List Dim) ℕ) → items_at 40 value ≡ r → LineIs line
 text_is line value whole free (Ok dims) e = inl (Remove dims, (value, whole, found value dims e))
 text_is line value whole free (Err left) e = inr (Value, remove_value line value whole free (λ dims is. only_fault value left dims e is))
 

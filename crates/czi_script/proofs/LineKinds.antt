@@ -6,7 +6,7 @@ use Rattle.czi_doc.specs.DimText.{IsDimText}
 use Rattle.czi_doc.specs.declared.fault.TextFault.{TextFault}
 use Rattle.czi_doc.specs.declared.fault.TextFault.TheVariants.{Bad, Memory}
 use Rattle.czi_script.specs.declared.kind.Kind.TheVariants.{Field, Value}
-use Rattle.czi_script.specs.Script.{Command, Remove, Listing, Info, Free, IsLine, word, built_words, is_among, HasFields, IsWrong}
+use Rattle.czi_script.specs.Script.{Command, Remove, Listing, Info, HasNo, IsLine, word, built_words, is_among, HasFields, IsWrong}
 
 same_head : (x y : ℕ) (xs ys : List ℕ) → x ∷ xs ≡ y ∷ ys → x ≡ y
 same_head x y xs ys e = cc
@@ -40,16 +40,16 @@ remove_other line fields w whole none = (
 )
 
 -- bytes are left over behind the value
-pub remove_more : (line value : List ℕ) → word line ≡ codes "remove" → line ≡ codes "remove dims=" ++ value → (Free 32 value → ⊥) → IsWrong Field line
+pub remove_more : (line value : List ℕ) → word line ≡ codes "remove" → line ≡ codes "remove dims=" ++ value → (HasNo 32 value → ⊥) → IsWrong Field line
 remove_more line value w whole spaced = (
   is_built line (codes "remove") refl w,
   λ has. elim has [
-    | inl r ↦ spaced (subst (Free 32) (same_value r.0 value (sym r.1 ∙ whole)) r.2)
+    | inl r ↦ spaced (subst (HasNo 32) (same_value r.0 value (sym r.1 ∙ whole)) r.2)
     | inr b ↦ elim b [ inl l ↦ remove_not_list _ [] (sym whole ∙ l) | inr i ↦ remove_not_info _ [] (sym whole ∙ i) ]
   ],
 )
 
-pub remove_value : (line value : List ℕ) → line ≡ codes "remove dims=" ++ value → Free 32 value → ((dims : List Dim) → IsDimText value dims → ⊥) → IsWrong Value line
+pub remove_value : (line value : List ℕ) → line ≡ codes "remove dims=" ++ value → HasNo 32 value → ((dims : List Dim) → IsDimText value dims → ⊥) → IsWrong Value line
 remove_value line value whole free none = (inl (value, whole, free), no_command)
   where
     no_command : (c : Command) → IsLine c line → ⊥

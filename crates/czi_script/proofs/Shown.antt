@@ -9,7 +9,7 @@ use Rattle.czi_script.specs.declared.error.ScriptError.{ScriptError}
 use Rattle.czi_script.specs.declared.error.ScriptError.TheVariants.{Fault, Input as InputFailed, TooLong, Memory}
 use Rattle.czi_script.specs.declared.command.Command.{Command as CodeCommand}
 use Rattle.czi_script.specs.declared.lines.Front.TheVariants.{Line}
-use Rattle.czi_script.specs.Script.{Command, Free, IsLine, Spells, FirstLine, IsWrong, IsFault, Shows, Finds, Beyond}
+use Rattle.czi_script.specs.Script.{Command, HasNo, IsLine, Spells, FirstLine, IsWrong, IsFault, Shows, Finds, Beyond}
 use Rattle.czi_script.specs.View.{command_of}
 use Rattle.czi_script.specs.Reader.{Reader, IsReader, ahead, used, room, limit, FindsError, LeavesError, TakesFirst, lost_by}
 use Rattle.czi_script.specs.Pieces.{IsFront, TookOn, GoesOn, Lines, LineFault, LineStops, UsesLine, RefusesLine}
@@ -49,15 +49,15 @@ long_shown : (h rest : List ℕ) (r : ℕ) → length h ≤ r → IsFault Long h
 long_shown h rest r le f = inr (λ more. subst (IsFault Long) (sym (every h rest more r le)) (longer (take (r - length h) rest ++ more)))
   where
     longer : (ys : List ℕ) → IsFault Long (h ++ ys)
-    longer ys = (let n : length (h ++ ys) ≡ length h + length ys = length-append h ys in omega (arith, n, f.0), subst (Free 10) (sym (take-append-le 4096 h ys f.0)) f.1)
+    longer ys = (let n : length (h ++ ys) ≡ length h + length ys = length-append h ys in omega (arith, n, f.0), subst (HasNo 10) (sym (take-append-le 4096 h ys f.0)) f.1)
 
 cut_shown : (h rest : List ℕ) (r : ℕ) → length h ≤ r → IsFault Cut h → rest ≡ [] → Shows r Cut (h ++ rest)
 cut_shown h rest r le f none = subst (Shows r Cut) (sym (ap (λ l. h ++ l) none ∙ append-nil h)) (inl (le, f))
 
-beyond_shown : (h rest : List ℕ) (b r : ℕ) → r ≡ length h → length h < 4096 → Free 10 h → Finds r (h ++ b ∷ rest) Beyond
+beyond_shown : (h rest : List ℕ) (b r : ℕ) → r ≡ length h → length h < 4096 → HasNo 10 h → Finds r (h ++ b ∷ rest) Beyond
 beyond_shown h rest b r full short free = (
   let n : length (h ++ b ∷ rest) ≡ length h + length (b ∷ rest) = length-append h (b ∷ rest) in omega (arith, n, full),
-  subst (Free 10) (sym (take_at h (b ∷ rest) r (sym full))) free,
+  subst (HasNo 10) (sym (take_at h (b ∷ rest) r (sym full))) free,
   omega (arith, full, short),
 )
 

@@ -2,7 +2,7 @@
 use Rattle.std.proofs.Common.{◌≡◌, ℕ, ◌+◌, ◌<◌, List, [], ◌++◌, length, true, false, Option, None, refl, ap, sym, ◌∙◌, subst, arith, append-nil, append_assoc, length-append, inl, inr}
 use Rattle.std.specs.Prelude.{◌≢◌}
 use Rattle.czi_script.specs.declared.kind.Kind.TheVariants.{Cut, Long}
-use Rattle.czi_script.specs.Script.{Free, IsFault}
+use Rattle.czi_script.specs.Script.{HasNo, IsFault}
 use Rattle.czi_script.specs.Reader.{Reader}
 use Rattle.czi_script.specs.Pieces.{TookOn, AtEnd, Fills, Lines, LineFault}
 
@@ -40,7 +40,7 @@ took_both a b c start middle end first more p q = record {
 pub long_fault : (old new : Reader) (held : List ℕ) (before after : Option (List ℕ)) (more : List ℕ) → TookOn old new before after more → held ≡ new.held → IsFault Long held → LineFault old new before after (new.commands + 1) Long
 long_fault old new held before after more took same fault = record { more = more; took = took; next_one = ap (λ n. n + 1) took.commands; fault = inl (subst (IsFault Long) same fault, refl) }
 
-pub cut_fault : (old mid new : Reader) (held : List ℕ) (start before after : Option (List ℕ)) (more : List ℕ) → TookOn old mid start before more → held ≡ mid.held → Free 10 held → length held < 4096
+pub cut_fault : (old mid new : Reader) (held : List ℕ) (start before after : Option (List ℕ)) (more : List ℕ) → TookOn old mid start before more → held ≡ mid.held → HasNo 10 held → length held < 4096
     → Fills mid new before after false → new.held ≢ [] → LineFault old new start after (new.commands + 1) Cut
 cut_fault old mid new held start before after more took same free short fills some =
     let none = fills.none refl in
@@ -50,7 +50,7 @@ cut_fault old mid new held start before after more took same free short fills so
       more = more ++ fills.more;
       took = both;
       next_one = ap (λ n. n + 1) both.commands;
-      fault = inr (((some, subst (Free 10) still free, subst (λ l. length l < 4096) still short), none.1), refl);
+      fault = inr (((some, subst (HasNo 10) still free, subst (λ l. length l < 4096) still short), none.1), refl);
     }
 
 -- the end behind a whole command

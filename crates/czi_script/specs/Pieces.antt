@@ -10,15 +10,15 @@ use Rattle.czi_script.specs.declared.lines.Refusal.{Refusal}
 use Rattle.czi_script.specs.declared.lines.Refusal.TheVariants.{Kind as OfKind, Memory as NoMemory}
 use Rattle.czi_script.specs.declared.lines.Front.{Front}
 use Rattle.czi_script.specs.declared.lines.Front.TheVariants.{Line, Long as TooFar, Part}
-use Rattle.czi_script.specs.Script.{Free, IsLine, IsWrong, IsFault}
+use Rattle.czi_script.specs.Script.{HasNo, IsLine, IsWrong, IsFault}
 use Rattle.czi_script.specs.Reader.{Reader, HoldsNoLine, limit}
 use Rattle.czi_script.specs.View.{command_of}
 
 -- what stands in front of the bytes
 abbrev pub IsFront : List ℕ → Front → Type 0
-IsFront bytes (Line len) = (len < 4096) × (len < length bytes) × Free 10 (take len bytes) × (bytes ≡ take len bytes ++ 10 ∷ drop (len + 1) bytes)
-IsFront bytes TooFar = (4096 ≤ length bytes) × Free 10 (take 4096 bytes)
-IsFront bytes Part = (length bytes < 4096) × Free 10 bytes
+IsFront bytes (Line len) = (len < 4096) × (len < length bytes) × HasNo 10 (take len bytes) × (bytes ≡ take len bytes ++ 10 ∷ drop (len + 1) bytes)
+IsFront bytes TooFar = (4096 ≤ length bytes) × HasNo 10 (take 4096 bytes)
+IsFront bytes Part = (length bytes < 4096) × HasNo 10 bytes
 
 -- why a whole line gives no command
 abbrev pub Refuses : List ℕ → Refusal → Type 0

@@ -5,7 +5,7 @@ use Rattle.czi_rig.specs.Passes.{Rose}
 use Rattle.czi_script.specs.declared.command.Command.{Command as CodeCommand}
 use Rattle.czi_script.specs.declared.error.ScriptError.{ScriptError}
 use Rattle.czi_script.specs.declared.error.ScriptError.TheVariants.{Fault, Input as InputFailed, TooLong, Memory}
-use Rattle.czi_script.specs.Script.{Free, Next, Ended, Wrong, Beyond, Finds, Spells}
+use Rattle.czi_script.specs.Script.{HasNo, Next, Ended, Wrong, Beyond, Finds, Spells}
 use Rattle.czi_script.specs.View.{command_of}
 
 -- the bytes that were taken and are not used yet, how many were taken in all, how many commands were read, and the error
@@ -75,7 +75,7 @@ Leaves old new bytes after (Err error) = LeavesError old new bytes after error
 -- no whole line is among the bytes that are held
 pub record HoldsNoLine (r : Reader) : Type 0 where
   pub short : length r.held < 4096
-  pub free : Free 10 r.held
+  pub free : HasNo 10 r.held
 
 -- The numbers of commands: one more was read where one is answered, and the number of a fault is the next one. Where the
 -- input failed, or goes on behind the limit, each command was read whose bytes were taken.

@@ -14,8 +14,8 @@ pub data Command : Type 0 where
   Info : Command
 
 -- none of the bytes is b
-abbrev pub Free : ℕ → List ℕ → Type 0
-Free b bytes = AllByRecursion (λ x. x ≢ b) bytes
+abbrev pub HasNo : ℕ → List ℕ → Type 0
+HasNo b bytes = AllByRecursion (λ x. x ≢ b) bytes
 
 -- The line of a command, without its line feed. A dimension text has several spellings of one list of dimensions, and so
 -- does the command.
@@ -35,7 +35,7 @@ pub record Spells (c : Command) (bytes : List ℕ) : Type 0 where
 pub record FirstLine (line bytes : List ℕ) : Type 0 where
   pub more : List ℕ
   pub whole : bytes ≡ line ++ 10 ∷ more
-  pub free : Free 10 line
+  pub free : HasNo 10 line
   pub short : length line < 4096
 
 -- how many bytes stand before the first b
@@ -58,7 +58,7 @@ is_among words w = list_any (bytes_eq w) words
 
 -- The fields of a line are right: `remove` has one, dims; `list` and `info` have none. No value has a space.
 abbrev pub HasFields : List ℕ → Type 0
-HasFields line = ((value : List ℕ) × (line ≡ codes "remove dims=" ++ value) × Free 32 value) ⊎ ((line ≡ codes "list") ⊎ (line ≡ codes "info"))
+HasFields line = ((value : List ℕ) × (line ≡ codes "remove dims=" ++ value) × HasNo 32 value) ⊎ ((line ≡ codes "list") ⊎ (line ≡ codes "info"))
 
 -- Why a whole line is no command: its word is none of the format's or isn't built yet, its fields aren't right, or a value
 -- of them isn't of its form.
@@ -74,8 +74,8 @@ IsWrong Tail line = ⊥
 -- Why the bytes begin with no command: they end within a line, the line is too long, or it is none. A line is read whole
 -- before its word is looked at.
 abbrev pub IsFault : Kind → List ℕ → Type 0
-IsFault Cut bytes = (bytes ≢ []) × Free 10 bytes × (length bytes < 4096)
-IsFault Long bytes = (4096 ≤ length bytes) × Free 10 (take 4096 bytes)
+IsFault Cut bytes = (bytes ≢ []) × HasNo 10 bytes × (length bytes < 4096)
+IsFault Long bytes = (4096 ≤ length bytes) × HasNo 10 (take 4096 bytes)
 IsFault Word bytes = (line : List ℕ) × FirstLine line bytes × IsWrong Word line
 IsFault Later bytes = (line : List ℕ) × FirstLine line bytes × IsWrong Later line
 IsFault Field bytes = (line : List ℕ) × FirstLine line bytes × IsWrong Field line
@@ -128,4 +128,4 @@ abbrev pub Finds : ℕ → List ℕ → Found → Type 0
 Finds room bytes (Next c) = (spelled more : List ℕ) × (bytes ≡ spelled ++ more) × Spells c spelled × (length spelled ≤ room)
 Finds room bytes Ended = bytes ≡ []
 Finds room bytes (Wrong kind) = Shows room kind bytes
-Finds room bytes Beyond = (room < length bytes) × Free 10 (take room bytes) × (room < 4096)
+Finds room bytes Beyond = (room < length bytes) × HasNo 10 (take room bytes) × (room < 4096)

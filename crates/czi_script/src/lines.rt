@@ -1,8 +1,8 @@
 //! One line of a script.
 
-ghost use Rattle.std.specs.Prelude.{◌≡◌, ◌≢◌, [], ◌⊎◌, ◌++◌, ◌<◌, ◌≤◌, ℕ, List, length, take, drop, not, ◌==◌, IsTrue, IsFalse, codes, bytes_eq, MatchResult};
+ghost use Rattle.std.specs.Prelude.{◌≡◌, ◌≢◌, [], ◌++◌, ◌<◌, ◌≤◌, ℕ, List, length, take, codes, bytes_eq, MatchResult};
 ghost use Rattle.std.specs.List.{list_any};
-ghost use Rattle.czi_script.specs.Script.{Free, word, is_among, later_words, len_before, IsLine};
+ghost use Rattle.czi_script.specs.Script.{HasNo, word, is_among, later_words, len_before, IsLine};
 ghost use Rattle.czi_script.specs.View.{command_of};
 ghost use Rattle.czi_script.specs.Pieces.{IsFront, Refuses};
 
@@ -46,7 +46,7 @@ fn len_before(end: u8, bytes: &[u8]) -> usize
 pub(crate) fn front_of(bytes: &[u8], seen: usize) -> Front
     requires inside { seen ≤ length bytes.now }
     requires few { seen < 4096 }
-    requires free { Free 10 (take seen bytes.now) }
+    requires free { HasNo 10 (take seen bytes.now) }
     ensures { IsFront bytes.now result }
 {
     let front = &bytes[..bytes.len().min(LINE)];

@@ -1,9 +1,9 @@
 //! Scripts, read command by command.
 
-ghost use Rattle.std.specs.Prelude.{◌≡◌, ◌≢◌, ◌+◌, ◌-◌, ◌^◌, ◌<◌, ◌≤◌, ℕ, List, [], length, is_some, IfOk, IfErr, IfSome, OnOk, OnErr};
+ghost use Rattle.std.specs.Prelude.{◌≡◌, ◌≢◌, ◌+◌, ◌<◌, ◌≤◌, [], length, is_some, IfOk, IfErr, IfSome, OnOk};
 ghost use Rattle.std.specs.Option.{ForSome};
 ghost use Rattle.czi_script.specs.Reader.{Reader, IsReader, unused, ahead, FindsThere, Leaves, Counts, CausesError, TakesFirst, lost, kept};
-ghost use Rattle.czi_script.specs.Pieces.{IsFront, AtEnd, GoesOn, Fills, FillStops, Lines, LineStops, UsesLine, RefusesLine, EndsLine};
+ghost use Rattle.czi_script.specs.Pieces.{IsFront, AtEnd, Fills, FillStops, Lines, LineStops, UsesLine, RefusesLine, EndsLine};
 
 use crate::command::Command;
 use crate::error::ScriptError;

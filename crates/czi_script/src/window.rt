@@ -1,7 +1,6 @@
 //! Bytes that were taken of an input and are not used yet.
 
-ghost use Rattle.std.specs.Prelude.{◌≡◌, ◌↔◌, ◌+◌, ◌-◌, ◌<◌, ◌≤◌, ℕ, List, [], length, take, drop, slice_range, is_some, IfOk, OnErr, OnOk};
-ghost use Rattle.std.specs.Option.{ForSome};
+ghost use Rattle.std.specs.Prelude.{◌≡◌, ◌-◌, ◌<◌, ◌≤◌, [], length, drop, slice_range, is_some, IfOk, OnErr};
 ghost use Rattle.czi_rig.specs.Passes.{Rose};
 ghost use Rattle.czi_script.specs.Pieces.{Added};
 

@@ -1,6 +1,6 @@
 use Rattle.std.proofs.Common.{◌≡◌, ◌<◌, ◌≤◌, ◌-◌, ◌^◌, ℕ, List, length, take}
 use Rattle.std.specs.Prelude.{is_some}
-use Rattle.czi_script.specs.Script.{Free}
+use Rattle.czi_script.specs.Script.{HasNo}
 use Rattle.czi_script.specs.Pieces.{TookOn}
 use Rattle.czi_script.proofs.reader.ScriptReader.line.Given as goal
 
@@ -11,7 +11,7 @@ invariant-loop-len g l = record {
   told : is_some (g.S.Source.input l.input).left ≡ is_some (g.S.Source.input l.initial.input).left;
   inside : l.seen ≤ length l.self.held;
   few : l.seen < 4096;
-  free : Free 10 (take l.seen l.self.held);
+  free : HasNo 10 (take l.seen l.self.held);
   later : (g.S.Source.input l.initial.input).faults ≤ (g.S.Source.input l.input).faults;
 }
 
