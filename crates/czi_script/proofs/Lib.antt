@@ -1,0 +1,9 @@
+pub mod Bytes
+pub mod LineKinds
+pub mod Windows
+pub mod Steps
+pub mod Shown
+pub mod Grammar
+pub mod Faults
+pub mod Reading
+pub mod Found

@@ -1,0 +1,4 @@
+pub mod Script
+pub mod View
+pub mod Reader
+pub mod Pieces

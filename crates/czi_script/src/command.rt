@@ -1,0 +1,17 @@
+//! The commands of a script.
+
+use czi_doc::Dims;
+
+/// One command of a script.
+#[derive(Debug, PartialEq, Eq, Drop)]
+pub enum Command {
+    /// `remove`: the subblock with these dimensions is to go.
+    Remove {
+        /// The dimensions that name the subblock.
+        dims: Dims,
+    },
+    /// `list`: the subblocks are to be listed.
+    List,
+    /// `info`: numbers of the document are to be told.
+    Info,
+}

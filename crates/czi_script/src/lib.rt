@@ -1,0 +1,22 @@
+//! Edit scripts, read command by command from an input.
+#![tactic(auto)]
+
+mod command;
+mod error;
+mod kind;
+mod laws;
+mod lines;
+mod reader;
+mod window;
+
+pub use command::Command;
+pub use error::ScriptError;
+pub use kind::Kind;
+pub use laws::{
+    faults_show, faults_stay, no_spelling_begins_another, one_answer, one_kind, one_reading,
+    reading_goes_on,
+};
+pub use reader::ScriptReader;
+
+#[cfg(test)]
+mod tests;

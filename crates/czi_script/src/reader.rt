@@ -1,0 +1,223 @@
+//! Scripts, read command by command.
+
+ghost use Rattle.std.specs.Prelude.{◌≡◌, ◌≢◌, ◌+◌, ◌<◌, ◌≤◌, [], length, is_some, IfOk, IfErr, IfSome, OnOk};
+ghost use Rattle.std.specs.Option.{ForSome};
+ghost use Rattle.czi_script.specs.Reader.{Reader, IsReader, unused, ahead, FindsThere, Leaves, Counts, CausesError, TakesFirst, lost, kept};
+ghost use Rattle.czi_script.specs.Pieces.{IsFront, AtEnd, Fills, FillStops, Lines, LineStops, UsesLine, RefusesLine, EndsLine};
+
+use crate::command::Command;
+use crate::error::ScriptError;
+use crate::kind::Kind;
+use crate::lines::{Front, Refusal, command_in, front_of};
+use crate::window::{SIZE, Window};
+use czi_rig::Source;
+use std::alloc::{AllocError, Global};
+use std::marker::Model;
+
+/// How many bytes are taken of an input at most.
+const LIMIT: u64 = 1 << 40;
+
+/// Reads a script from an input, command by command. It keeps a buffer of 64 KiB, and takes as many bytes at once as
+/// have room there.
+#[derive(Drop)]
+pub struct ScriptReader {
+    window: Window,
+    taken: u64,
+    commands: u64,
+    error: Option<ScriptError>,
+    alloc: Global,
+}
+
+impl Model for ScriptReader {
+    ghost use Rattle.std.specs.Prelude.{◌+◌, ◌^◌, ◌≤◌, length};
+    ghost use Rattle.czi_script.specs.Reader.{Reader};
+
+    ghost Value = { Reader };
+
+    ghost view = { λ r. record { held = r.window; taken = r.taken; commands = r.commands; error = r.error } };
+
+    ghost invariant = { λ r. (r.commands + length r.window ≤ r.taken) × (r.taken ≤ 2 ^ 40) };
+}
+
+/// Whether the input is at its end, where no more bytes may be taken.
+fn ends<S: Source>(input: &mut S) -> Result<(), ScriptError>
+    ensures end { OnOk result (AtEnd (S.input input.new).left) }
+    ensures same { OnOk result ((S.input input.new).left ≡ (S.input input.old).left) }
+    ensures stops { IfErr result (EndsLine (S.input input.old).left (S.input input.new).left) }
+    ensures told { is_some (S.input input.new).left ≡ is_some (S.input input.old).left }
+    ensures later { (S.input input.old).faults ≤ (S.input input.new).faults }
+    ensures cause { IfErr result (CausesError (S.input input.old).faults (S.input input.new).faults) }
+{
+    match input.take(&mut [0u8; 1]) {
+        Ok(0) => Ok(()),
+        Ok(_) => Err(ScriptError::TooLong),
+        Err(_) => Err(ScriptError::Input),
+    }
+}
+
+impl ScriptReader {
+    /// A reader that has taken nothing.
+    ///
+    /// # Errors
+    ///
+    /// Memory is wanting.
+    pub fn new(alloc: Global) -> Result<ScriptReader, AllocError>
+        ensures { IfOk result (λ r. r ≡ unused) }
+    {
+        Ok(ScriptReader {
+            window: Window::new(alloc)?,
+            taken: 0,
+            commands: 0,
+            error: None,
+            alloc,
+        })
+    }
+
+    /// The fault of the next command.
+    fn fault(&self, kind: Kind) -> ScriptError
+        ensures { result ≡ ScriptError.Fault (self.now.commands + 1) kind }
+    {
+        ScriptError::Fault {
+            number: self.commands + 1,
+            kind,
+        }
+    }
+
+    /// Keeps an error.
+    fn keep(&mut self, error: ScriptError)
+        ensures { self.new ≡ record self.old { error = Some error } }
+    {
+        self.error = Some(error);
+    }
+
+    /// TakesFirst more bytes. False at the end of the input.
+    fn fill<S: Source>(&mut self, input: &mut S) -> Result<bool, ScriptError>
+        requires { length self.old.held < 4096 }
+        ensures fills { IfOk result (Fills self.old self.new (S.input input.old).left (S.input input.new).left) }
+        ensures sound { IsReader self.new }
+        ensures stops { IfErr result (FillStops self.old self.new (S.input input.old).left (S.input input.new).left) }
+        ensures told { is_some (S.input input.new).left ≡ is_some (S.input input.old).left }
+        ensures later { (S.input input.old).faults ≤ (S.input input.new).faults }
+        ensures cause { IfErr result (CausesError (S.input input.old).faults (S.input input.new).faults) }
+    {
+        let room = LIMIT - self.taken;
+        if room == 0 {
+            ends(input)?;
+            return Ok(false);
+        }
+        let most = room.min(SIZE as u64) as usize;
+        match self.window.fill(input, most) {
+            Ok(count) => {
+                self.taken += count as u64;
+                Ok(count != 0)
+            }
+            Err(_) => Err(ScriptError::Input),
+        }
+    }
+
+    /// What the end of the input makes of the bytes that are left.
+    fn end(&self) -> Result<Option<usize>, ScriptError>
+        ensures none { IfOk result (λ found. (found ≡ None) × (self.now.held ≡ [])) }
+        ensures cut { IfErr result (λ error. (error ≡ ScriptError.Fault (self.now.commands + 1) Kind.Cut) × (self.now.held ≢ [])) }
+    {
+        if self.window.held().is_empty() {
+            Ok(None)
+        } else {
+            Err(self.fault(Kind::Cut))
+        }
+    }
+
+    /// TakesFirst bytes until a whole line stands in front, and answers how long it is without its line feed. None at
+    /// the end of the input behind a whole line.
+    fn line<S: Source>(&mut self, input: &mut S) -> Result<Option<usize>, ScriptError>
+        ensures lines { IfOk result (Lines self.old self.new (S.input input.old).left (S.input input.new).left) }
+        ensures sound { IsReader self.new }
+        ensures stops { IfErr result (LineStops self.old self.new (S.input input.old).left (S.input input.new).left) }
+        ensures told { is_some (S.input input.new).left ≡ is_some (S.input input.old).left }
+        ensures later { (S.input input.old).faults ≤ (S.input input.new).faults }
+        ensures cause { IfErr result (CausesError (S.input input.old).faults (S.input input.new).faults) }
+    {
+        let mut seen = 0;
+        loop {
+            match front_of(self.window.held(), seen) {
+                Front::Line(len) => return Ok(Some(len)),
+                Front::Long => return Err(self.fault(Kind::Long)),
+                Front::Part => seen = self.window.held().len(),
+            }
+            if !self.fill(input)? {
+                return self.end();
+            }
+        }
+    }
+
+    /// The command in front, by its line of so many bytes.
+    fn command(&mut self, len: usize) -> Result<Command, ScriptError>
+        requires { IsFront self.old.held (Front.Line len) }
+        ensures sound { IsReader self.new }
+        ensures ok { IfOk result (UsesLine self.old self.new len) }
+        ensures err { IfErr result (RefusesLine self.old self.new len) }
+    {
+        let line = &self.window.held()[..len];
+        match command_in(self.alloc, line) {
+            Ok(command) => {
+                self.window.use_front(len + 1);
+                self.commands += 1;
+                Ok(command)
+            }
+            Err(Refusal::Kind(kind)) => Err(self.fault(kind)),
+            Err(Refusal::Memory) => Err(ScriptError::Memory),
+        }
+    }
+
+    /// The next command, of a reader without an error.
+    fn read<S: Source>(&mut self, input: &mut S) -> Result<Option<Command>, ScriptError>
+        ensures finds { ForSome (ahead self.old (S.input input.old).left) (λ bytes. FindsThere self.old bytes result) }
+        ensures leaves { ForSome (ahead self.old (S.input input.old).left) (λ bytes. Leaves self.old self.new bytes (ahead self.new (S.input input.new).left) result) }
+        ensures takes { TakesFirst self.old self.new (S.input input.old).left (S.input input.new).left (lost result) }
+        ensures counts { Counts self.old self.new result }
+        ensures sound { IsReader self.new }
+        ensures error { self.new.error ≡ self.old.error }
+        ensures told { is_some (S.input input.new).left ≡ is_some (S.input input.old).left }
+        ensures later { (S.input input.old).faults ≤ (S.input input.new).faults }
+        ensures cause { IfErr result (CausesError (S.input input.old).faults (S.input input.new).faults) }
+    {
+        match self.line(input)? {
+            Some(len) => match self.command(len) {
+                Ok(command) => Ok(Some(command)),
+                Err(error) => Err(error),
+            },
+            None => Ok(None),
+        }
+    }
+
+    /// The next command of the script, or None where the input is at its end behind a whole command.
+    ///
+    /// # Errors
+    ///
+    /// `Fault` where the bytes ahead begin with no command, `Input` where a call of the input failed, `TooLong` where
+    /// 2^40 bytes of it did not suffice and it goes on, or `Memory`. Each later call then answers the same, and takes
+    /// nothing.
+    pub fn next<S: Source>(&mut self, input: &mut S) -> Result<Option<Command>, ScriptError>
+        ensures finds { self.old.error ≡ None → ForSome (ahead self.old (S.input input.old).left) (λ bytes. FindsThere self.old bytes result) }
+        ensures leaves { self.old.error ≡ None → ForSome (ahead self.old (S.input input.old).left) (λ bytes. Leaves self.old self.new bytes (ahead self.new (S.input input.new).left) result) }
+        ensures takes { self.old.error ≡ None → TakesFirst self.old self.new (S.input input.old).left (S.input input.new).left (lost result) }
+        ensures counts { self.old.error ≡ None → Counts self.old self.new result }
+        ensures cause { self.old.error ≡ None → IfErr result (CausesError (S.input input.old).faults (S.input input.new).faults) }
+        ensures keeps { self.new.error ≡ kept result }
+        ensures again { IfSome self.old.error (λ error. (result ≡ Err error) × (self.new ≡ self.old) × (input.new ≡ input.old)) }
+        ensures sound { IsReader self.new }
+        ensures told { is_some (S.input input.new).left ≡ is_some (S.input input.old).left }
+        ensures later { (S.input input.old).faults ≤ (S.input input.new).faults }
+    {
+        if let Some(error) = self.error {
+            return Err(error);
+        }
+        match self.read(input) {
+            Ok(found) => Ok(found),
+            Err(error) => {
+                self.keep(error);
+                Err(error)
+            }
+        }
+    }
+}
