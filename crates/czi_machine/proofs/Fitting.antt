@@ -3,12 +3,8 @@ use Rattle.std.proofs.Common.{◌≡◌, ℕ, ◌+◌, ◌-◌, ◌%◌, ◌≤�
 use Rattle.std.specs.List.{AllByRecursion, find}
 use Rattle.std.proofs.lemmas.Bool.{cases_lt, cases_Bool, leb-true}
 use Rattle.czi_format.specs.Span.{Span, end_of, round32}
-use Rattle.czi_format.specs.Layout.{Layout}
-use Rattle.czi_machine.specs.Change.{Change, last, into, put, out, brought}
 use Rattle.czi_machine.specs.Cover.{between, cover}
-use Rattle.czi_machine.specs.Places.{ChangeFit, fit_change}
 use Rattle.czi_format.specs.Space.{Space, Fit, Full, fit, place_for, place_in, place_past, use_span, without}
-use Rattle.czi_machine.specs.State.{spans_of}
 use Rattle.czi_machine.proofs.Cover.{between_in, between_low, between_high, between_two, without_in, without_out, without_none, cover-append}
 use Rattle.czi_machine.proofs.Keeps.{IsWhole, without_whole}
 use Rattle.czi_machine.proofs.Tiled.{All-both, between_one}
@@ -144,20 +140,3 @@ fit_uses s need f is even some e =
     on_ok (place_for s need) _ f e λ at there more.
     subst (λ (z : Fit). Uses s z.space (z.span ∷ [])) (same_fit (record { span = record { at = at; len = need }; space = use_span s (record { at = at; len = need }) }) f _ refl more) (placed s need at is even some there)
 
-same_change : (a b : ChangeFit) (r : Result ChangeFit Full) → r ≡ Ok a → r ≡ Ok b → a ≡ b
-same_change a b r p q = cc
-
--- the item that a change brings
-pub fit_change_uses : {X : Type 0} (l : Layout) (s : Space) (need : X → ℕ) (c : Change X) (r : ChangeFit) → IsSpace s → AllByRecursion (λ x. (need x % 32 ≡ 0) × (0 < need x)) (brought c)
-    → fit_change l s need c ≡ Ok r → Uses s r.space (spans_of (brought r.change))
-fit_change_uses l s need (last x) r is good e =
-    on_ok (fit s (need x)) _ r e λ f fits more.
-    subst (λ (z : ChangeFit). Uses s z.space (spans_of (brought z.change))) (same_change _ r _ refl more) (fit_uses s (need x) f is good.0.0 good.0.1 fits)
-fit_change_uses l s need (into i x) r is good e =
-    on_ok (fit s (need x)) _ r e λ f fits more.
-    subst (λ (z : ChangeFit). Uses s z.space (spans_of (brought z.change))) (same_change _ r _ refl more) (fit_uses s (need x) f is good.0.0 good.0.1 fits)
-fit_change_uses l s need (put i x) r is good e =
-    on_ok (fit s (need x)) _ r e λ f fits more.
-    subst (λ (z : ChangeFit). Uses s z.space (spans_of (brought z.change))) (same_change _ r _ refl more) (fit_uses s (need x) f is good.0.0 good.0.1 fits)
-fit_change_uses l s need (out i) r is good e =
-    subst (λ (z : ChangeFit). Uses s z.space (spans_of (brought z.change))) (same_change _ r _ refl e) (uses_nothing s is)

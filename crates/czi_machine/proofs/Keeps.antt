@@ -2,11 +2,10 @@
 -- something, and stand one behind another.
 use Rattle.std.proofs.Common.{◌≡◌, ℕ, ◌+◌, ◌%◌, ◌≤◌, ◌<◌, max, min, List, [], ◌∷◌, ◌++◌, true, false, nat_lt, ◌==◌, refl, ap, arith, inl, inr, if◌then◌else◌}
 use Rattle.std.specs.List.{flat_map, AllByRecursion}
-use Rattle.std.specs.Bool.{⊤}
 use Rattle.std.proofs.lemmas.Bool.{ltb-true, ltb-false, lt-ltb, le-ltb, cases_lt, cases_Bool, eqb-true, eq-eqb, and_parts}
 use Rattle.czi_format.specs.Span.{Span, end_of, meets, is_aligned, span_le, inserted, sorted}
 use Rattle.czi_machine.specs.Cover.{between, cover}
-pub use Rattle.czi_machine.specs.Cover.{IsWhole}
+pub use Rattle.czi_machine.specs.Cover.{IsWhole, Chained}
 use Rattle.czi_format.specs.Space.{from_to, left_of, without, together, with_next, with_freed, with_all_freed, deleted_after}
 use Rattle.czi_machine.proofs.Cover.{between_in, cover-with_freed, cover-sorted}
 use Rattle.czi_machine.proofs.Tiled.{All-both}
@@ -61,11 +60,6 @@ with_freed_whole s (x ∷ xs) ws all = elim (cases_Bool (nat_lt s.at x.at)) [
 with_all_whole : (spans xs : List Span) → AllByRecursion IsWhole spans → AllByRecursion IsWhole xs → AllByRecursion IsWhole (with_all_freed spans xs)
 with_all_whole [] xs a b = b
 with_all_whole (s ∷ spans) xs a b = with_all_whole spans (with_freed s xs) a.1 (with_freed_whole s xs a.0 b)
-
--- one behind another, from a place on
-abbrev pub Chained : ℕ → List Span → Type 0
-Chained from [] = ⊤
-Chained from (s ∷ rest) = (from ≤ s.at) × Chained (end_of s) rest
 
 pub chained_from : (a b : ℕ) (xs : List Span) → a ≤ b → Chained b xs → Chained a xs
 chained_from a b [] le c = tt

@@ -12,8 +12,7 @@ use Rattle.czi_format.proofs.Readings.{option_or_some}
 use Rattle.czi_machine.specs.Cover.{between, cover}
 use Rattle.czi_machine.specs.Tiled.{IsRising, IsTiled}
 use Rattle.czi_machine.proofs.Cover.{between_in, between_low, between_high, between_two}
-use Rattle.czi_machine.proofs.Tiled.{All-both, All-weaken, All-filter, aligned_is, all_among, none_twice, between_one, cover-all_segments}
-use Rattle.czi_machine.proofs.Changed.{map-All}
+use Rattle.czi_machine.proofs.Tiled.{All-both, map-All, All-weaken, All-filter, aligned_is, all_among, none_twice, between_one, cover-all_segments}
 use Rattle.czi_machine.proofs.LiveStand.{StandsLive, live_stands}
 
 -- what a walk over multiples of 32 up to the end says
@@ -124,7 +123,7 @@ disjoint_few (x ∷ xs) p d = elim (cases_lt p x.at) [
         omega (arith, here, none_there ys all.1 h k)
 
 -- places of one list are places of another
-some_there : (xs ys : List Span) (p : ℕ) → AllByRecursion (λ (x : Span). between x.at (end_of x) p ≤ cover ys p) xs → 1 ≤ cover xs p → 1 ≤ cover ys p
+pub some_there : (xs ys : List Span) (p : ℕ) → AllByRecursion (λ (x : Span). between x.at (end_of x) p ≤ cover ys p) xs → 1 ≤ cover xs p → 1 ≤ cover ys p
 some_there [] ys p all some = absurd (omega arith)
 some_there (x ∷ xs) ys p all some = elim (cases_lt 0 (between x.at (end_of x) p)) [
   | inl h ↦ omega (arith, all.0)
@@ -191,7 +190,7 @@ live_known : (live : List Segment) (s : Segment) → bytes_eq s.id deleted_id �
 unfolding is_known
 live_known live s d a = rw (d, a)
 
-same_number : (a b : ℕ) → a ≤ 1 → b ≤ 1 → (1 ≤ a → 1 ≤ b) → (1 ≤ b → 1 ≤ a) → a ≡ b
+pub same_number : (a b : ℕ) → a ≤ 1 → b ≤ 1 → (1 ≤ a → 1 ≤ b) → (1 ≤ b → 1 ≤ a) → a ≡ b
 same_number a b la lb f g = elim (cases_lt 0 a) [
   | inl h ↦ omega (arith, f h)
   | inr h ↦ elim (cases_lt 0 b) [ inl k ↦ omega (arith, g k) | inr k ↦ omega arith ]

@@ -31,6 +31,14 @@ pub All-weaken : {X : Type 0} (P Q : X → Type 0) → ((x : X) → P x → Q x)
 All-weaken P Q f [] all = tt
 All-weaken P Q f (x ∷ xs) all = (f x all.0, All-weaken P Q f xs all.1)
 
+pub All-map : {X Y : Type 0} (f : X → Y) (P : Y → Type 0) (xs : List X) → AllByRecursion P (map f xs) → AllByRecursion (λ x. P (f x)) xs
+All-map f P [] all = tt
+All-map f P (x ∷ xs) all = (all.0, All-map f P xs all.1)
+
+pub map-All : {X Y : Type 0} (f : X → Y) (P : Y → Type 0) (xs : List X) → AllByRecursion (λ x. P (f x)) xs → AllByRecursion P (map f xs)
+map-All f P [] all = tt
+map-All f P (x ∷ xs) all = (all.0, map-All f P xs all.1)
+
 All-inserted : {X : Type 0} (P : X → Type 0) (le : X → X → Bool) (x : X) (ys : List X) → P x → AllByRecursion P ys → AllByRecursion P (inserted le x ys)
 All-inserted P le x [] px all = (px, tt)
 All-inserted P le x (y ∷ ys) px all =

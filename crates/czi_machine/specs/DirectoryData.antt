@@ -1,11 +1,10 @@
 -- The data of a new directory.
-use Rattle.std.specs.Prelude.{◌≡◌, ℕ, ◌+◌, ◌≤◌, ◌<◌, ◌^◌, pos, List, ◌++◌, map, length, replicate, flat_map}
+use Rattle.std.specs.Prelude.{◌≡◌, ℕ, ◌+◌, ◌≤◌, ◌<◌, ◌^◌, pos, List, ◌++◌, length, replicate, flat_map}
 use Rattle.std.specs.List.{AllByRecursion}
 use Rattle.czi_format.specs.Bytes.{bytes_at, i32_bytes}
 use Rattle.czi_format.specs.Entry.{Entry, entry_bytes, IsEntry}
-use Rattle.czi_format.specs.Live.{Live, Directory, Tile}
+use Rattle.czi_format.specs.Live.{Directory}
 use Rattle.czi_format.specs.Segment.{header_bytes, directory_id}
-use Rattle.czi_machine.specs.Change.{Change, changed}
 
 -- how many entries there are, 124 zeros, the entries, and zeros
 abbrev pub directory_data : List Entry → ℕ → List ℕ
@@ -25,6 +24,3 @@ pub record Writes (image : List ℕ) (at allocated used : ℕ) (es : List Entry)
   pub few : length es ≤ 2 ^ 20
   pub entries : AllByRecursion IsEntry es
 
--- the entries after a change
-abbrev pub entries_of : Live → Change Tile → List Entry
-entries_of live c = map (λ (t : Tile). t.entry) (changed c live.tiles)

@@ -3,10 +3,10 @@ use Rattle.std.specs.Prelude.{ℕ, suc, ◌-◌, ◌^◌, List, [], ◌∷◌, t
 use Rattle.czi_format.specs.Document.{Document}
 use Rattle.czi_format.specs.Layout.{Layout}
 use Rattle.czi_format.specs.FirstFault.{◌>>=◌, with_fault}
-use Rattle.czi_machine.specs.Edit.{Edit, Deed, Refusal, nothing, full, after, deed}
+use Rattle.czi_machine.specs.Edit.{Edit, Refusal, nothing, full, after, effect}
 use Rattle.czi_format.specs.Space.{Full}
 use Rattle.czi_machine.specs.State.{Former, State, items_of}
-use Rattle.czi_machine.specs.Places.{laid, undone, repacked, all_moves, Move}
+use Rattle.czi_machine.specs.Places.{laid, edit_next, undo_next, repacked, all_moves, Move}
 
 -- A query of type Q keeps the state.
 pub data Command (Q : Type 0) : Type 0 where
@@ -36,9 +36,9 @@ abbrev pub as_refusal : Full → Refusal
 as_refusal f = full f.need f.length
 
 -- the state after an accepted edit
-abbrev pub edited : State → Deed → Layout → State
-edited s e l = record {
-  document = after e s.document;
+abbrev pub edited : State → Document → Layout → State
+edited s d l = record {
+  document = d;
   layout = l;
   formers = take 32 (record { document = s.document; items = items_of s.layout } ∷ s.formers);
   number = one_more s.number;
@@ -46,16 +46,20 @@ edited s e l = record {
 
 -- the state after an edit, or what refuses it
 abbrev pub after_edit : State → Edit → Result State Refusal
-after_edit s e = do
-  what ← deed s.document e
-  l ← with_fault as_refusal (laid s what)
-  Ok (edited s what l)
+after_edit s c = do
+  e ← effect s.document c
+  l ← with_fault as_refusal (laid s (edit_next s e))
+  Ok (edited s (after e s.document) l)
+
+-- the newest former is the present document again
+abbrev pub restored : State → Former → List Former → Layout → State
+restored s f formers l = record { document = f.document; layout = l; formers = formers; number = one_more s.number }
 
 abbrev pub after_undo_of : State → List Former → Result State Refusal
 after_undo_of s [] = Err nothing
 after_undo_of s (f ∷ formers) = do
-  l ← with_fault as_refusal (undone s f)
-  Ok (record { document = f.document; layout = l; formers = formers; number = one_more s.number })
+  l ← with_fault as_refusal (laid s (undo_next s f))
+  Ok (restored s f formers l)
 
 abbrev pub after_undo : State → Result State Refusal
 after_undo s = after_undo_of s s.formers

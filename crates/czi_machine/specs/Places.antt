@@ -1,11 +1,12 @@
 -- Where an edit and an undo put things: their needs, and the layout after them.
-use Rattle.std.specs.Prelude.{ℕ, ◌+◌, ◌*◌, List, [], ◌∷◌, ◌++◌, map, filter, length, max, Bool, true, false, ◌&&◌, ◌||◌, ◌==◌, nat_lt, Option, Some, option_to_list, option_map, Result, Ok, sum, if◌then◌else◌}
-use Rattle.czi_format.specs.Document.{Subblock, Attachment, Metadata}
+use Rattle.std.specs.Prelude.{ℕ, ◌+◌, ◌*◌, List, [], ◌∷◌, ◌++◌, map, filter, length, max, Bool, true, false, ◌&&◌, ◌||◌, ◌==◌, nat_lt, Option, Some, None, option_to_list, option_map, Result, Ok, sum, if◌then◌else◌}
+use Rattle.czi_format.specs.Document.{Document, Subblock, Attachment, Metadata}
 use Rattle.czi_format.specs.Span.{Span, end_of, round32, is_aligned, span_le, sorted}
 use Rattle.czi_format.specs.FirstFault.{◌>>=◌}
 use Rattle.czi_format.specs.Layout.{Place, Layout}
-use Rattle.czi_machine.specs.Change.{Change, last, into, put, out, changed, brought, taken}
-use Rattle.czi_machine.specs.Edit.{Deed, in_subblocks, in_attachments, to_metadata}
+use Rattle.std.specs.List.{list_any}
+use Rattle.czi_machine.specs.Change.{changed, mapped, set, mapped_setting}
+use Rattle.czi_machine.specs.Edit.{DocumentEffect, after}
 use Rattle.czi_format.specs.Space.{Space, Full, fit, free_runs, deleted_after}
 use Rattle.czi_machine.specs.State.{Items, items_of, spans_of, item_places, item_spans, not_among, Former, State, held}
 use Rattle.czi_format.specs.Space.{same_span}
@@ -39,121 +40,160 @@ walk_goes_on l = round32 l.walk_end == round32 l.length
 abbrev pub new_place : Layout → Span → Place
 new_place l s = record { span = s; walked = nat_lt s.at l.length || walk_goes_on l }
 
--- Where the parts of a command's layout lie, and the length.
-pub record Parts : Type 0 where
+-- What a live segment of the next layout asks for: it stays where it lies, goes back to where it lay, or is new and needs
+-- that many bytes.
+pub data Asked : Type 0 where
+  stays : Place → Asked
+  back : Place → Asked
+  fresh : ℕ → Asked
+
+-- What is live next, but for the file header.
+pub record Next : Type 0 where
+  pub subblocks : List Asked
+  pub attachments : List Asked
+  pub metadata : Option Asked
+  pub directory : Option Asked
+  pub attdir : Option Asked
+
+-- the places of a list stay as they are
+abbrev pub stays_at : Place → Asked → Bool
+stays_at p (stays q) = same_span p.span q.span
+stays_at p (back q) = false
+stays_at p (fresh need) = false
+
+abbrev pub all_stay : List Place → List Asked → Bool
+all_stay [] [] = true
+all_stay [] (a ∷ asked) = false
+all_stay (p ∷ ps) [] = false
+all_stay (p ∷ ps) (a ∷ asked) = stays_at p a && all_stay ps asked
+
+-- a directory stays where its list does, and is new else
+abbrev pub directory_asked : Option Place → Bool → ℕ → Option Asked
+directory_asked old true need = option_map stays old
+directory_asked old false need = Some (fresh need)
+
+-- these items next, of this document
+abbrev pub next : Layout → Document → List Asked → List Asked → Option Asked → Next
+next l d subblocks attachments metadata = record {
+  subblocks = subblocks;
+  attachments = attachments;
+  metadata = metadata;
+  directory = directory_asked l.directory (all_stay l.subblocks subblocks) (directory_need d.subblocks);
+  attdir = directory_asked l.attdir (all_stay l.attachments attachments) (attdir_need d.attachments);
+}
+
+-- what is live next after an edit: what it brings is new
+abbrev pub edit_next : State → DocumentEffect → Next
+edit_next s e = next s.layout (after e s.document)
+    (changed (mapped (λ x. fresh (subblock_need x)) e.subblocks) (map stays s.layout.subblocks))
+    (changed (mapped (λ x. fresh (attachment_need x)) e.attachments) (map stays s.layout.attachments))
+    (set (mapped_setting (λ x. fresh (metadata_need x)) e.metadata) (option_map stays s.layout.metadata))
+
+-- what is live next after an undo: an item whose span isn't that of a present one goes back to it
+abbrev pub stays_or_back : List Span → Place → Asked
+stays_or_back present p = if list_any (same_span p.span) present then stays p else back p
+
+abbrev pub undo_next : State → Former → Next
+undo_next s f = next s.layout f.document (map there f.items.subblocks) (map there f.items.attachments) (option_map there f.items.metadata)
+  where
+    there : Place → Asked
+    there p = stays_or_back (item_spans (items_of s.layout)) p
+
+-- Where things were placed: the spans that were gone back to, those that are new, and the space that is left.
+pub record Fitted (X : Type 0) : Type 0 where
+  pub places : X
+  pub back : List Span
+  pub used : List Span
+  pub space : Space
+
+abbrev pub fit_one : Layout → Space → Asked → Result (Fitted Place) Full
+fit_one l space (stays p) = Ok (record { places = p; back = []; used = []; space = space })
+fit_one l space (back p) = Ok (record { places = p; back = p.span ∷ []; used = []; space = space })
+fit_one l space (fresh need) = do
+  f ← fit space need
+  Ok (record { places = new_place l f.span; back = []; used = f.span ∷ []; space = f.space })
+
+abbrev pub fit_each : Layout → Space → List Asked → Result (Fitted (List Place)) Full
+fit_each l space [] = Ok (record { places = []; back = []; used = []; space = space })
+fit_each l space (a ∷ asked) = do
+  first ← fit_one l space a
+  rest ← fit_each l first.space asked
+  Ok (record { places = first.places ∷ rest.places; back = first.back ++ rest.back; used = first.used ++ rest.used; space = rest.space })
+
+abbrev pub fit_option : Layout → Space → Option Asked → Result (Fitted (Option Place)) Full
+fit_option l space None = Ok (record { places = None; back = []; used = []; space = space })
+fit_option l space (Some a) = do
+  f ← fit_one l space a
+  Ok (record { places = Some f.places; back = f.back; used = f.used; space = f.space })
+
+-- Where what is live next lies, and the length.
+pub record Placed : Type 0 where
   pub directory : Option Place
   pub attdir : Option Place
   pub items : Items
+  pub used : List Span
   pub length : ℕ
+
+-- the needs in order: items, and then directories
+abbrev pub placed : Layout → Space → Next → Result Placed Full
+placed l space n = do
+  subblocks ← fit_each l space n.subblocks
+  attachments ← fit_each l subblocks.space n.attachments
+  metadata ← fit_option l attachments.space n.metadata
+  directory ← fit_option l metadata.space n.directory
+  attdir ← fit_option l directory.space n.attdir
+  Ok (record {
+    directory = directory.places;
+    attdir = attdir.places;
+    items = record { subblocks = subblocks.places; attachments = attachments.places; metadata = metadata.places };
+    used = subblocks.back ++ (attachments.back ++ (metadata.back ++ (subblocks.used ++ (attachments.used ++ (metadata.used ++ (directory.used ++ attdir.used))))));
+    length = attdir.space.length;
+  })
+
+-- the spans that stay
+abbrev pub staying : List Asked → List Span
+staying [] = []
+staying (stays p ∷ asked) = p.span ∷ staying asked
+staying (back p ∷ asked) = staying asked
+staying (fresh need ∷ asked) = staying asked
+
+abbrev pub items_asked : Next → List Asked
+items_asked n = n.subblocks ++ (n.attachments ++ option_to_list n.metadata)
+
+abbrev pub directories_asked : Next → List Asked
+directories_asked n = option_to_list n.directory ++ option_to_list n.attdir
+
+abbrev pub directories : Layout → List Place
+directories l = option_to_list l.directory ++ option_to_list l.attdir
+
+-- what is live, and doesn't stay
+abbrev pub leaving : Layout → Next → List Place
+leaving l n = not_among (staying (items_asked n)) (item_places (items_of l)) ++ not_among (staying (directories_asked n)) (directories l)
 
 -- only a span on which the walk stands, and that begins and ends at multiples of 32, is used again
 abbrev pub can_be_used : Place → Bool
 can_be_used p = p.walked && is_aligned p.span
 
--- The layout with these parts, after a command that used some spans and freed some segments.
-abbrev pub relaid : Layout → Parts → List Span → List Place → Layout
-relaid l parts used freed = record {
-  length = parts.length;
+-- The layout with these places, after what is live no more was freed.
+abbrev pub relaid : Layout → Next → Placed → Layout
+relaid l n p = record {
+  length = p.length;
   header = l.header;
-  directory = parts.directory;
-  attdir = parts.attdir;
-  metadata = parts.items.metadata;
-  subblocks = parts.items.subblocks;
-  attachments = parts.items.attachments;
-  walk_end = if walk_goes_on l && nat_lt l.length parts.length then parts.length else l.walk_end;
-  deleted = deleted_after used (spans_of (filter can_be_used freed)) l.deleted;
+  directory = p.directory;
+  attdir = p.attdir;
+  metadata = p.items.metadata;
+  subblocks = p.items.subblocks;
+  attachments = p.items.attachments;
+  walk_end = if walk_goes_on l && nat_lt l.length p.length then p.length else l.walk_end;
+  deleted = deleted_after p.used (spans_of (filter can_be_used (leaving l n))) l.deleted;
   unknown = l.unknown;
 }
 
--- the item that a change brings goes to where it fits
-pub record ChangeFit : Type 0 where
-  pub change : Change Place
-  pub space : Space
-
-abbrev pub fit_change : {X : Type 0} → Layout → Space → (X → ℕ) → Change X → Result ChangeFit Full
-fit_change l space need (last x) = do
-  f ← fit space (need x)
-  Ok (record { change = last (new_place l f.span); space = f.space })
-fit_change l space need (into i x) = do
-  f ← fit space (need x)
-  Ok (record { change = into i (new_place l f.span); space = f.space })
-fit_change l space need (put i x) = do
-  f ← fit space (need x)
-  Ok (record { change = put i (new_place l f.span); space = f.space })
-fit_change l space need (out i) = Ok (record { change = out i; space = space })
-
--- The layout after an edit: the new item is placed first, and then the new directory. What the edit takes out, and the old
--- directory, are freed.
-abbrev pub laid : State → Deed → Result Layout Full
-laid s (in_subblocks c) = do
-  item ← fit_change s.layout (space_of s) subblock_need c
-  dir ← fit item.space (directory_need (changed c s.document.subblocks))
-  let new : List Place = changed item.change s.layout.subblocks
-  Ok (relaid s.layout
-      (record {
-        directory = Some (new_place s.layout dir.span);
-        attdir = s.layout.attdir;
-        items = record (items_of s.layout) { subblocks = new };
-        length = dir.space.length;
-      })
-      (spans_of (brought item.change) ++ dir.span ∷ [])
-      (taken item.change s.layout.subblocks ++ option_to_list s.layout.directory))
-laid s (in_attachments c) = do
-  item ← fit_change s.layout (space_of s) attachment_need c
-  dir ← fit item.space (attdir_need (changed c s.document.attachments))
-  let new : List Place = changed item.change s.layout.attachments
-  Ok (relaid s.layout
-      (record {
-        directory = s.layout.directory;
-        attdir = Some (new_place s.layout dir.span);
-        items = record (items_of s.layout) { attachments = new };
-        length = dir.space.length;
-      })
-      (spans_of (brought item.change) ++ dir.span ∷ [])
-      (taken item.change s.layout.attachments ++ option_to_list s.layout.attdir))
-laid s (to_metadata m) = do
-  item ← fit (space_of s) (metadata_need m)
-  Ok (relaid s.layout
-      (record {
-        directory = s.layout.directory;
-        attdir = s.layout.attdir;
-        items = record (items_of s.layout) { metadata = Some (new_place s.layout item.span) };
-        length = item.space.length;
-      })
-      (item.span ∷ [])
-      (option_to_list s.layout.metadata))
-
--- two lists of places lie at the same spans
-abbrev pub same_spans : List Place → List Place → Bool
-same_spans [] [] = true
-same_spans [] (b ∷ bs) = false
-same_spans (a ∷ as') [] = false
-same_spans (a ∷ as') (b ∷ bs) = same_span a.span b.span && same_spans as' bs
-
--- a directory stays where its items stay, and else is placed anew
-pub record DirectoryFit : Type 0 where
-  pub place : Option Place
-  pub used : List Span
-  pub freed : List Place
-  pub space : Space
-
-abbrev pub fit_directory : Layout → Space → Bool → Option Place → ℕ → Result DirectoryFit Full
-fit_directory l space stays old need = if stays
-    then Ok (record { place = old; used = []; freed = []; space = space })
-    else (do
-      f ← fit space need
-      Ok (record { place = Some (new_place l f.span); used = f.span ∷ []; freed = option_to_list old; space = f.space }))
-
--- The layout after an undo: the former's items lie where they lay. Those that it brings back are used, those that it takes
--- away are freed, and so is the present directory of a list that changes.
-abbrev pub undone : State → Former → Result Layout Full
-undone s f = do
-  dir ← fit_directory s.layout (space_of s) (same_spans s.layout.subblocks f.items.subblocks) s.layout.directory (directory_need f.document.subblocks)
-  attdir ← fit_directory s.layout dir.space (same_spans s.layout.attachments f.items.attachments) s.layout.attdir (attdir_need f.document.attachments)
-  Ok (relaid s.layout
-      (record { directory = dir.place; attdir = attdir.place; items = f.items; length = attdir.space.length })
-      (spans_of (not_among (item_spans (items_of s.layout)) (item_places f.items)) ++ (dir.used ++ attdir.used))
-      (not_among (item_spans f.items) (item_places (items_of s.layout)) ++ (dir.freed ++ attdir.freed)))
+-- the layout in which this is live
+abbrev pub laid : State → Next → Result Layout Full
+laid s n = do
+  p ← placed s.layout (space_of s) n
+  Ok (relaid s.layout n p)
 
 -- The layout after a repack: the live segments in order of place, each at the end of the one before rounded up to 32.
 pub record Move : Type 0 where
