@@ -79,6 +79,7 @@ pub record Placing (s : State) (n : Next) (pl : Placed) : Type 0 where
   pub directories_whole : AllByRecursion IsWhole (spans_of (option_to_list pl.directory ++ option_to_list pl.attdir))
   pub items_walked : AllByRecursion (λ (q : Place). q.walked ≡ true) (item_places pl.items)
   pub directories_walked : AllByRecursion (λ (q : Place). q.walked ≡ true) (option_to_list pl.directory ++ option_to_list pl.attdir)
+  pub items_there : AllByRecursion (λ t. list_any (same_span t) (item_spans pl.items) ≡ true) (staying (items_asked n))
 
 goes_on : (l : Layout) → IsExact l → walk_goes_on l ≡ true
 goes_on l is = ap (λ z. round32 z == round32 l.length) is.walk_end ∙ eq-eqb (round32 l.length) (round32 l.length) refl
@@ -183,6 +184,7 @@ placing s n pl is nx e =
       directories_whole = fdx.whole;
       items_walked = fi.walked;
       directories_walked = fdx.walked;
+      items_there = fi.there;
     } in
     subst (Placing s n) (ok_is its pl e5) result
   where
@@ -318,3 +320,10 @@ relaid_exact s n pl is nx at =
   where
     end_is : (l : Layout) (m : ℕ) → IsExact l → l.length ≤ m → (if walk_goes_on l && nat_lt l.length m then m else l.walk_end) ≡ m
     end_is l m is le = let goes : walk_goes_on l ≡ true = goes_on l is in rw goes (elim (cases_lt l.length m) [ inl h ↦ rw (lt-ltb l.length m h) | inr h ↦ rw (le-ltb l.length m h) (omega (arith, is.walk_end, le)) ])
+
+-- what is new avoids the held spans
+pub avoids_held : (s : State) (n : Next) (pl : Placed) (at : Placing s n pl) (p : ℕ) → IsSound s → 1 ≤ cover (held s) p → cover at.used p ≡ 0
+avoids_held s n pl at p is here = elim (cases_lt p s.layout.length) [
+  | inl k ↦ omega (arith, at.uses.inside p k, without_in (held s) s.layout.deleted p here)
+  | inr k ↦ absurd (omega (arith, here, held_deleted s p is, (none_behind s.layout p is.layout k).1))
+]

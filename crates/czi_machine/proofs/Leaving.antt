@@ -32,6 +32,14 @@ among_covers s (x ∷ xs) p e = elim (cases_Bool (same_span s x)) [
 pub among_more : (s : Span) (x : Span) (xs : List Span) → list_any (same_span s) xs ≡ true → list_any (same_span s) (x ∷ xs) ≡ true
 among_more s x xs e = elim (cases_Bool (same_span s x)) [ inl f ↦ rw f | inr f ↦ rw f e ]
 
+pub among_behind : (s : Span) (xs ys : List Span) → list_any (same_span s) ys ≡ true → list_any (same_span s) (xs ++ ys) ≡ true
+among_behind s [] ys e = e
+among_behind s (x ∷ xs) ys e = elim (cases_Bool (same_span s x)) [ inl f ↦ rw f | inr f ↦ rw f (among_behind s xs ys e) ]
+
+pub among_before : (s : Span) (xs ys : List Span) → list_any (same_span s) xs ≡ true → list_any (same_span s) (xs ++ ys) ≡ true
+among_before s [] ys e = cc
+among_before s (x ∷ xs) ys e = elim (cases_Bool (same_span s x)) [ inl f ↦ rw f | inr f ↦ rw f (among_before s xs ys (rw f at e)) ]
+
 -- each of some spans is among them
 pub among_themselves : (xs : List Span) → AllByRecursion (λ s. list_any (same_span s) xs ≡ true) xs
 among_themselves [] = tt
@@ -89,3 +97,32 @@ none_among b xs some apart = elim (cases_Bool (list_any (same_span b) xs)) [
   | inl e ↦ absurd (omega (arith, among_covers b xs b.at e, apart b.at, between_in b.at (end_of b) b.at (omega arith) (omega (arith, some))))
   | inr e ↦ e
 ]
+
+-- a stricter test leaves fewer
+pub cover-fewer : (q r : Place → Bool) (xs : List Place) (p : ℕ) → ((x : Place) → q x ≡ true → r x ≡ true) → cover (spans_of (filter q xs)) p ≤ cover (spans_of (filter r xs)) p
+cover-fewer q r [] p f = omega arith
+cover-fewer q r (x ∷ xs) p f = elim (cases_Bool (q x)) [
+  | inl e ↦ rw (e, f x e) (omega (arith, cover-fewer q r xs p f))
+  | inr e ↦ rw e (elim (cases_Bool (r x)) [ inl g ↦ rw g (omega (arith, cover-fewer q r xs p f)) | inr g ↦ rw g (cover-fewer q r xs p f) ])
+]
+
+pub All-fewer : (P : Place → Type 0) (q r : Place → Bool) (xs : List Place) → ((x : Place) → q x ≡ true → r x ≡ true) → AllByRecursion P (filter r xs) → AllByRecursion P (filter q xs)
+All-fewer P q r [] f all = tt
+All-fewer P q r (x ∷ xs) f all = elim (cases_Bool (q x)) [
+  | inl e ↦ let g : r x ≡ true = f x e in let both = rw g at all in rw e (both.0, All-fewer P q r xs f both.1)
+  | inr e ↦ rw e (elim (cases_Bool (r x)) [ inl g ↦ let both = rw g at all in All-fewer P q r xs f both.1 | inr g ↦ All-fewer P q r xs f (rw g at all) ])
+]
+
+-- what isn't among some spans isn't among fewer
+pub not_fewer : (ys zs : List Span) (x : Place) → AllByRecursion (λ t. list_any (same_span t) zs ≡ true) ys → not (list_any (same_span x.span) zs) ≡ true → not (list_any (same_span x.span) ys) ≡ true
+not_fewer ys zs x there e = elim (cases_Bool (list_any (same_span x.span) ys)) [
+  | inr f ↦ rw f
+  | inl f ↦ absurd (let g : list_any (same_span x.span) zs ≡ true = found ys there f in let clash : false ≡ true = sym (ap not g) ∙ e in cc)
+]
+  where
+    found : (ys : List Span) → AllByRecursion (λ t. list_any (same_span t) zs ≡ true) ys → list_any (same_span x.span) ys ≡ true → list_any (same_span x.span) zs ≡ true
+    found [] all f = cc
+    found (y ∷ ys) all f = elim (cases_Bool (same_span x.span y)) [
+      | inl g ↦ ap (λ z. list_any (same_span z) zs) (same_is x.span y g) ∙ all.0
+      | inr g ↦ found ys all.1 (rw g at f)
+    ]

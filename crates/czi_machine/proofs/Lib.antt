@@ -12,3 +12,6 @@ pub mod Changing
 pub mod Asking
 pub mod Leaving
 pub mod Exact
+pub mod InOne
+pub mod Sound
+pub mod Steps
