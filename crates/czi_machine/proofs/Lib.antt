@@ -15,3 +15,4 @@ pub mod Exact
 pub mod InOne
 pub mod Sound
 pub mod Steps
+pub mod Over

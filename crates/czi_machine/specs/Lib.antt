@@ -12,6 +12,7 @@ pub mod Written
 pub mod Recovered
 pub mod Headline
 pub mod DirectoryData
-pub mod Plan
+pub mod Turn
+pub mod Writes
 pub mod SubblockData
 pub mod Laws
