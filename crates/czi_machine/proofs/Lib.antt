@@ -16,3 +16,6 @@ pub mod InOne
 pub mod Sound
 pub mod Steps
 pub mod Over
+pub mod Clear
+pub mod Relinked
+pub mod Shown
