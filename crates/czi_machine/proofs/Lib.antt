@@ -19,3 +19,6 @@ pub mod Over
 pub mod Clear
 pub mod Relinked
 pub mod Shown
+pub mod Led
+pub mod Lying
+pub mod Command

@@ -12,7 +12,7 @@ use Rattle.czi_format.specs.Walk.{stands_at, WalksFrom, walk_end}
 use Rattle.czi_format.specs.Layout.{is_walked, place_of, is_free, is_unknown, layout, HasLayout, IsSteady}
 use Rattle.czi_machine.proofs.Restated.{stands_inside}
 use Rattle.czi_format.proofs.Local.{All-append, map_same}
-use Rattle.czi_machine.specs.Cover.{between, cover}
+use Rattle.czi_machine.specs.Cover.{between, cover, Chained}
 use Rattle.czi_machine.specs.Tiled.{IsRising, IsTiled, all_segments, here, tiled_layout}
 use Rattle.czi_machine.proofs.Cover.{between_in, between_low, between_high, between_two, cover-append}
 
@@ -379,4 +379,31 @@ tiled image live deleted unknown reaches is =
         aligned = All-sorted (λ (s : Segment). is_aligned (extent s) ≡ true) at_le all is.aligned;
         walked = among;
       },
+    )
+
+-- extents one behind another, and their segments in order of place
+chained_low : (from : ℕ) (xs : List Segment) → Chained from (map extent xs) → AllByRecursion (λ (t : Segment). from ≤ t.at) xs
+chained_low from [] c = tt
+chained_low from (x ∷ xs) c = (c.0, All-weaken (λ (t : Segment). end_of (extent x) ≤ t.at) (λ (t : Segment). from ≤ t.at) (λ t h. omega (arith, c.0)) xs (chained_low (end_of (extent x)) xs c.1))
+
+pub chained_rising : (from : ℕ) (xs : List Segment) → Chained from (map extent xs) → IsRising xs
+chained_rising from [] c = tt
+chained_rising from (x ∷ xs) c = (
+  All-weaken (λ (t : Segment). end_of (extent x) ≤ t.at) (λ (t : Segment). x.at ≤ t.at) (λ t h. omega arith) xs (chained_low (end_of (extent x)) xs c.1),
+  chained_rising (end_of (extent x)) xs c.1,
+)
+
+pub rising_chained : (from : ℕ) (xs : List Segment) → AllByRecursion (λ (t : Segment). from ≤ t.at) xs → IsRising xs → ((p : ℕ) → cover (map extent xs) p ≤ 1) → Chained from (map extent xs)
+rising_chained from [] low up once = tt
+rising_chained from (x ∷ xs) low up once = (low.0, rising_chained (end_of (extent x)) xs (beyond xs up.0 once) up.1 (λ p. omega (arith, once p)))
+  where
+    beyond : (ys : List Segment) → AllByRecursion (λ (t : Segment). x.at ≤ t.at) ys → ((p : ℕ) → between x.at (end_of (extent x)) p + cover (map extent ys) p ≤ 1)
+        → AllByRecursion (λ (t : Segment). end_of (extent x) ≤ t.at) ys
+    beyond [] all few = tt
+    beyond (y ∷ ys) all few = (
+      elim (cases_lt y.at (end_of (extent x))) [
+        | inl h ↦ absurd (omega (arith, few y.at, between_in x.at (end_of (extent x)) y.at all.0 h, between_in y.at (end_of (extent y)) y.at (omega arith) (omega arith)))
+        | inr h ↦ h
+      ],
+      beyond ys all.1 (λ p. omega (arith, few p)),
     )
