@@ -96,7 +96,7 @@ pub record AreOnce (live : Live) (t : Turn) (after : List Span) : Type 0 where
   pub once : (p : ℕ) → cover (map extent (segments (turned t live))) p + cover after p ≤ 1
   pub whole : AllByRecursion IsWhole after
 
-heads_within : (es : List Span) (p : ℕ) → AllByRecursion IsWhole es → cover (map head es) p ≤ cover es p
+pub heads_within : (es : List Span) (p : ℕ) → AllByRecursion IsWhole es → cover (map head es) p ≤ cover es p
 heads_within [] p all = omega arith
 heads_within (e ∷ es) p all =
     let rest = heads_within es p all.1 in
@@ -112,6 +112,15 @@ heads_within (e ∷ es) p all =
 writable_cover : (t : Turn) (after : List Span) (p : ℕ) → AllByRecursion IsWhole after
     → cover (writable t after) p ≤ between 84 100 p + (between 104 112 p + (cover (map extent (new_segments t)) p + cover after p))
 writable_cover t after p whole = omega (arith, cover-append (map extent (new_segments t)) (map head after) p, heads_within after p whole)
+
+-- a place that isn't writable isn't written
+pub nothing_written : (t : Turn) (before after : List Span) (pieces : List Piece) (q : ℕ) → WritesAround t before after pieces
+    → between 84 100 q + (between 104 112 q + (cover (map extent (new_segments t)) q + cover (map head after) q)) ≡ 0 → byte_of pieces q ≡ None
+nothing_written t before after pieces q around none = on_byte (byte_of pieces q) refl
+  where
+    on_byte : (o : Option ℕ) → byte_of pieces q ≡ o → o ≡ None
+    on_byte None e = refl
+    on_byte (Some b) e = absurd (omega (arith, around.within q b e, cover-append (map extent (new_segments t)) (map head after) q, none))
 
 -- a place that is none of these isn't written
 pub not_written : (t : Turn) (before after : List Span) (pieces : List Piece) (q : ℕ) → WritesAround t before after pieces → AllByRecursion IsWhole after

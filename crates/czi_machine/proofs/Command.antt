@@ -21,7 +21,7 @@ use Rattle.czi_machine.specs.Tiled.{IsRising, IsTiled, here, tiled_layout, all_s
 use Rattle.czi_machine.specs.Turn.{Turn, turned, new_segments, effect_of, LiesAt}
 use Rattle.czi_machine.specs.Writes.{head, deleted_segment, PutsDeleted, WritesAround, Writes}
 use Rattle.czi_machine.specs.Written.{Piece, byte_of, Puts, IsClear, Wrote}
-use Rattle.czi_machine.proofs.Clear.{HeaderAt, AreOnce, header_at_front, segment_clear, stands_still, turned_cover, not_written, map-map}
+use Rattle.czi_machine.proofs.Clear.{HeaderAt, AreOnce, header_at_front, segment_clear, stands_still, turned_cover, nothing_written, heads_within}
 use Rattle.czi_machine.proofs.Cover.{between_in, between_low, between_high, cover-append}
 use Rattle.czi_machine.proofs.Exact.{in_one_covers, none_behind}
 use Rattle.czi_machine.proofs.Keeps.{whole_aligned}
@@ -113,6 +113,7 @@ pub record Written (image other : List ℕ) (live : Live) (s s' : State) (t : Tu
   pub header : s'.layout.header ≡ here live.header.segment
   pub unknown : s'.layout.unknown ≡ map extent tiles.unknown
   pub longer : length image ≤ s'.layout.length
+  pub held_before : (p : ℕ) → length image ≤ p → cover (held s') p ≡ 0
 
 pub was_written : (image other : List ℕ) (s s' : State) (live : Live) (t : Turn) (pieces : List Piece) → Lies image live s → IsSound s → Leads s s' → LiesAt s'.layout (turned t live)
     → Written image other live s s' t pieces
@@ -133,6 +134,7 @@ was_written image other s s' live t pieces lies is leads at =
       header = header;
       unknown = unknown;
       longer = omega (arith, l.longer, ap (λ (z : Layout). z.length) tl.layout);
+      held_before = λ p h. l.held_before p (omega (arith, h, ap (λ (z : Layout). z.length) tl.layout));
     }
 
 -- extents inside the image
@@ -231,3 +233,55 @@ commanded image other s s' live t pieces lies is leads at document_is w =
       steady = result.1;
       layout = subst (HasLayout other) same_layout result.0;
     }
+
+-- the headers of DELETED extents have no place of a span in one of them past its first 32 bytes
+heads_clear : (h : Span) (es : List Span) (q : ℕ) → LiesInOne h es → AllByRecursion IsWhole es → cover es q ≤ 1 → h.at + 32 ≤ q → q < end_of h → cover (map head es) q ≡ 0
+heads_clear h [] q none whole few low high = absurd none
+heads_clear h (e ∷ es) q (inl i) whole few low high =
+    omega (arith, few, heads_within es q whole.1, between_in e.at (end_of e) q (omega (arith, i.0, low)) (omega (arith, i.1, high)), between_high e.at (e.at + 32) q (omega (arith, i.0, low)))
+heads_clear h (e ∷ es) q (inr i) whole few low high =
+    omega (
+      arith,
+      few,
+      heads_clear h es q i whole.1 (omega (arith, few)) low high,
+      in_one_covers h es q i,
+      between_in h.at (end_of h) q (omega (arith, low)) high,
+      heads_within (e ∷ []) q (whole.0, tt),
+    )
+
+-- the bytes of held spans past their first 32
+pub held_kept : (image other : List ℕ) (s s' : State) (live : Live) (t : Turn) (pieces : List Piece) → Lies image live s → IsSound s → Leads s s'
+    → LiesAt s'.layout (turned t live) → Writes image other t live s'.layout.length s.layout.deleted s'.layout.deleted pieces
+    → AllByRecursion (λ (h : Span). bytes_at other (h.at + 32) (h.len - 32) ≡ bytes_at image (h.at + 32) (h.len - 32)) (held s')
+held_kept image other s s' live t pieces lies is leads at w =
+    let k : Written image other live s s' t pieces = was_written image other s s' live t pieces lies is leads at in
+    let D : List Span = s'.layout.deleted in
+    let H : Segment = live.header.segment in
+    let front : HeaderAt image H = header_at_front image live lies.reaches in
+    let exact : IsExact s'.layout = k.sound.layout in
+    let inside : AllByRecursion (λ (h : Span). end_of h ≤ length image) (held s') = ends_inside (held s') (length image) k.sound.held_whole k.held_before in
+    let longer : length image ≤ length other = omega (arith, k.longer, w.long) in
+    on_all (λ (h : Span). IsWhole h × (end_of h ≤ length image)) (λ (h : Span). LiesInOne h D) (λ (h : Span). bytes_at other (h.at + 32) (h.len - 32) ≡ bytes_at image (h.at + 32) (h.len - 32))
+    (λ h b i.
+    let long : 32 ≤ h.len = omega (arith, b.0.len, b.0.some) in
+    let places : (q : ℕ) → h.at ≤ q → q < end_of h → (112 ≤ q) × (cover D q ≡ 1) = λ q low high.
+    let here : cover D q ≡ 1 = omega (arith, k.once.once q, in_one_covers h D q i, between_in h.at (end_of h) q low high) in
+    (elim (cases_lt q 112) [
+      | inl l ↦ absurd (omega (arith, here, k.once.once q, turned_cover live t q, between_in H.at (end_of (extent H)) q (omega (arith, front.place)) (omega (arith, front.place, front.large, l))))
+      | inr l ↦ l
+    ], here) in
+    let off : 112 ≤ h.at = (places h.at (omega arith) (omega (arith, b.0.some))).0 in
+    let clear : IsClear pieces (h.at + 32) (h.at + 32 + (h.len - 32)) = λ q low high.
+    let at' = places q (omega (arith, low)) (omega (arith, high, long)) in
+    nothing_written t s.layout.deleted D pieces q w.around
+    (omega (
+      arith,
+      between_high 84 100 q (omega (arith, at'.0)),
+      between_high 104 112 q at'.0,
+      k.once.once q,
+      turned_cover live t q,
+      at'.1,
+      heads_clear h D q i exact.deleted_whole (omega (arith, at'.1)) low (omega (arith, high, long)),
+    )) in
+    sym (clear_bytes image other pieces (h.at + 32) (h.len - 32) w.wrote clear (omega (arith, b.1, long)) (omega (arith, b.1, long, longer)) (inr (omega (arith, off)))))
+    (held s') (on_all IsWhole (λ (h : Span). end_of h ≤ length image) _ (λ h a b. (a, b)) (held s') k.sound.held_whole inside) k.sound.held_in

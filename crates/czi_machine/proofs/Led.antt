@@ -4,15 +4,16 @@ use Rattle.czi_format.specs.FirstFault.{with_fault}
 use Rattle.czi_format.specs.Layout.{Layout}
 use Rattle.czi_format.specs.Space.{Full}
 use Rattle.czi_format.proofs.Rules.{on_ok}
+use Rattle.czi_machine.specs.Cover.{cover}
 use Rattle.czi_machine.specs.Edit.{Edit, DocumentEffect, Refusal, effect, after}
 use Rattle.czi_machine.specs.Laws.{Leads}
 use Rattle.czi_machine.specs.Machine.{after_edit, after_undo, after_undo_of, as_refusal, edited, restored}
 use Rattle.czi_machine.specs.Places.{Next, Placed, edit_next, undo_next, placed, laid, relaid, space_of}
 use Rattle.czi_machine.specs.Sound.{IsSound}
-use Rattle.czi_machine.specs.State.{Former, State}
+use Rattle.czi_machine.specs.State.{Former, State, held}
 use Rattle.czi_machine.proofs.Exact.{IsNext, Placing, placing}
 use Rattle.czi_machine.proofs.Sound.{edit_is_next, undo_is_next}
-use Rattle.czi_machine.proofs.Steps.{sound_edited, sound_restored}
+use Rattle.czi_machine.proofs.Steps.{sound_edited, sound_restored, held_edited, held_restored}
 
 pub record Led (s s' : State) : Type 0 where
   pub next : Next
@@ -20,6 +21,7 @@ pub record Led (s s' : State) : Type 0 where
   pub layout : s'.layout ≡ relaid s.layout next placed
   pub longer : s.layout.length ≤ s'.layout.length
   pub sound : IsSound s'
+  pub held_before : (p : ℕ) → s.layout.length ≤ p → cover (held s') p ≡ 0
 
 no_fault : {A D E : Type 0} (f : D → E) (r : Result A D) (x : A) → with_fault f r ≡ Ok x → r ≡ Ok x
 no_fault f (Ok y) x e = let same : y ≡ x = cc (e) in ap Ok same
@@ -43,6 +45,7 @@ edit_led s s' c is e =
       layout = refl;
       longer = omega (arith, at.uses.longer, at.length);
       sound = sound_edited s f (after f s.document) pl is pl_is;
+      held_before = λ p h. held_edited s (after f s.document) (relaid s.layout n pl) p is h;
     })
 
 pub undo_led : (s s' : State) → IsSound s → after_undo s ≡ Ok s' → Led s s'
@@ -63,6 +66,7 @@ undo_led s s' is e = on_formers s.formers refl e
           layout = refl;
           longer = omega (arith, at.uses.longer, at.length);
           sound = sound_restored s f formers pl is newest pl_is;
+          held_before = λ p h. held_restored s f formers pl p is newest pl_is h;
         })
 
 pub led : (s s' : State) → IsSound s → Leads s s' → Led s s'

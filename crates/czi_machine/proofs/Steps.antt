@@ -16,9 +16,9 @@ use Rattle.czi_machine.specs.Sound.{live_spans, IsExact, AreItems, IsSound}
 use Rattle.czi_machine.specs.State.{Items, Former, State, held, held_by, items_of, item_places, item_spans, spans_of, not_among}
 use Rattle.czi_machine.proofs.Asking.{going_back, spans-append, ok_is}
 use Rattle.czi_machine.proofs.Cover.{cover-append}
-use Rattle.czi_machine.proofs.Exact.{IsNext, Placing, placing, relaid_exact, few_items, few_exact, live_parts, cover-live_places, avoids_held, held_deleted, leaving_freed, leaving_staying}
+use Rattle.czi_machine.proofs.Exact.{IsNext, Placing, placing, relaid_exact, few_items, few_exact, live_parts, cover-live_places, avoids_held, held_deleted, none_behind, leaving_freed, leaving_staying}
 use Rattle.czi_machine.proofs.InOne.{in_deleted_after, freed_in}
-use Rattle.czi_machine.proofs.Leaving.{cover-fewer, All-fewer, not_fewer}
+use Rattle.czi_machine.proofs.Leaving.{cover-split, cover-fewer, All-fewer, not_fewer}
 use Rattle.czi_machine.proofs.Sound.{edit_goes_back, edit_is_next, undo_goes_back, undo_is_next, held_first}
 use Rattle.czi_machine.proofs.Steady.{on_all}
 use Rattle.czi_machine.proofs.Tiled.{All-both, All-filter, All-map, map-All, All-weaken}
@@ -130,6 +130,25 @@ sound_edited s e d pl is placed_is =
       formers = (were, All-taken (λ (f : Former). AreItems f.items) 31 s.formers is.formers);
     }
 
+-- held spans lay below the length
+pub held_edited : (s : State) (d : Document) (l : Layout) (p : ℕ) → IsSound s → s.layout.length ≤ p → cover (held (edited s d l)) p ≡ 0
+held_edited s d l p is behind =
+    let items : List Place = item_places (items_of s.layout) in
+    let new : List Place = not_among (item_spans (items_of l)) items in
+    let rest : List Place = held_by (items_of s.layout) (take 31 s.formers) in
+    let nothing = none_behind s.layout p is.layout behind in
+    omega (
+      arith,
+      ap (λ z. cover z p) (spans-append new rest),
+      cover-append (spans_of new) (spans_of rest) p,
+      cover-split (λ (x : Place). list_any (same_span x.span) (item_spans (items_of l))) items p,
+      held-fewer (items_of s.layout) s.formers 31 p,
+      held_deleted s p is,
+      nothing.0,
+      nothing.1,
+      cover-live_places s.layout p,
+    )
+
 -- what stays, or goes back, lies where it is asked for
 one_place : (l : Layout) (present : List Span) (space : Space) (q : Place) (r : Fitted Place) → fit_one l space (stays_or_back present q) ≡ Ok r → r.places ≡ q
 one_place l present space q r e = elim (cases_Bool (list_any (same_span q.span) present)) [
@@ -196,3 +215,9 @@ sound_restored s f formers pl is newest placed_is =
       held_once = λ p. omega (arith, sums p, is.held_once p, ap (λ z. cover z p) now);
       formers = all.1;
     }
+
+pub held_restored : (s : State) (f : Former) (formers : List Former) (pl : Placed) (p : ℕ) → IsSound s → s.formers ≡ f ∷ formers → placed s.layout (space_of s) (undo_next s f) ≡ Ok pl → s.layout.length ≤ p
+    → cover (held (restored s f formers (relaid s.layout (undo_next s f) pl))) p ≡ 0
+held_restored s f formers pl p is newest placed_is behind =
+    let same : pl.items ≡ f.items = undo_places s f pl placed_is in
+    omega (arith, ap (λ z. cover (spans_of (held_by z formers)) p) same, held_first s f formers p newest, held_deleted s p is, (none_behind s.layout p is.layout behind).1)
