@@ -9,17 +9,17 @@ use Rattle.czi_format.specs.Shows.{Reaches}
 use Rattle.czi_format.specs.Span.{Span, is_aligned}
 use Rattle.czi_format.proofs.Unique.{reaches_unique}
 use Rattle.czi_format.proofs.Walks.{layout_unique}
-use Rattle.czi_machine.specs.Cover.{cover, Chained, IsWhole}
+use Rattle.czi_machine.specs.Cover.{between, cover, Chained, IsWhole, LiesInOne}
 use Rattle.czi_machine.specs.Laws.{Lies}
 use Rattle.czi_machine.specs.Places.{live_places}
-use Rattle.czi_machine.specs.Sound.{all_places, live_spans, IsExact}
-use Rattle.czi_machine.specs.State.{State, spans_of}
+use Rattle.czi_machine.specs.Sound.{all_places, live_spans, IsExact, AreItems, IsSound}
+use Rattle.czi_machine.specs.State.{Former, State, held, held_by, items_of, spans_of}
 use Rattle.czi_machine.specs.Tiled.{IsTiled, here, tiled_layout}
 use Rattle.czi_machine.specs.Turn.{LiesAt}
 use Rattle.czi_machine.proofs.Asking.{spans-append}
 use Rattle.czi_machine.proofs.Keeps.{aligned_whole}
 use Rattle.czi_machine.proofs.Steady.{steady_tiled, steady_even}
-use Rattle.czi_machine.proofs.Tiled.{tiled, parts, All-weaken, map-All}
+use Rattle.czi_machine.proofs.Tiled.{tiled, parts, All-both, All-weaken, map-All, between_one, cover-all_segments, rising_chained}
 
 -- the segments that tile the image
 pub record Tiling (image : List ℕ) (live : Live) (s : State) : Type 0 where
@@ -80,3 +80,53 @@ lying_spans l live at =
 
 pub tiled_lies : (n : ℕ) (live : Live) (ds us : List Segment) → LiesAt (tiled_layout n live ds us) live
 tiled_lies n live ds us = record { directory = refl; subblocks = refl; attdir = refl; attachments = refl; metadata = refl }
+
+zeros_low : (xs : List Segment) → AllByRecursion (λ (t : Segment). 0 ≤ t.at) xs
+zeros_low [] = tt
+zeros_low (x ∷ xs) = (omega arith, zeros_low xs)
+
+all_whole : (xs : List Segment) → AllByRecursion (λ (s : Segment). is_aligned (extent s) ≡ true) xs → AllByRecursion IsWhole (map extent xs)
+all_whole xs all = map-All extent IsWhole xs (All-weaken (λ (s : Segment). is_aligned (extent s) ≡ true) (λ (s : Segment). IsWhole (extent s)) (λ s e. aligned_whole (extent s) e (omega arith)) xs all)
+
+all_here : {X : Type 0} (f : X → Segment) (xs : List X) → AllByRecursion (λ (p : Place). p.walked ≡ true) (map (λ x. here (f x)) xs)
+all_here f [] = tt
+all_here f (x ∷ xs) = (refl, all_here f xs)
+
+one_here : {X : Type 0} (f : X → Segment) (o : Option X) → AllByRecursion (λ (p : Place). p.walked ≡ true) (option_to_list (option_map (λ x. here (f x)) o))
+one_here f None = tt
+one_here f (Some x) = (refl, tt)
+
+-- such a layout fills the image
+pub tiled_exact : (image : List ℕ) (live : Live) (ds us : List Segment) → IsTiled image live ds us → length image % 32 ≡ 0 → IsExact (tiled_layout (length image) live ds us)
+tiled_exact image live ds us is even =
+    let l : Layout = tiled_layout (length image) live ds us in
+    let P : Place → Type 0 = λ p. p.walked ≡ true in
+    let spans : live_spans l ≡ map extent (segments live) = λ i. extent live.header.segment ∷ lying_spans l live (tiled_lies (length image) live ds us) i in
+    let aligned = parts (λ (s : Segment). is_aligned (extent s) ≡ true) live ds us is.aligned in
+    let few : (p : ℕ) → cover (map extent (segments live)) p + (cover (map extent ds) p + cover (map extent us) p) ≤ 1 = λ p. omega (arith, is.once p, cover-all_segments live ds us p, between_one 0 (length image) p) in
+    record {
+      once = λ p. omega (arith, is.once p, cover-all_segments live ds us p, ap (λ z. cover z p) spans);
+      live_whole = subst (AllByRecursion IsWhole) (sym spans) (all_whole (segments live) aligned.needed);
+      deleted_whole = all_whole ds aligned.deleted;
+      unknown_whole = all_whole us aligned.unknown;
+      walked = (refl, All-both P (option_to_list l.directory) _ (one_here (λ (d : Directory). d.segment) live.directory)
+          (All-both P l.subblocks _ (all_here (λ (t : Tile). t.segment) live.tiles)
+          (All-both P (option_to_list l.attdir) _ (one_here (λ (d : Directory). d.segment) live.attdir)
+          (All-both P l.attachments _ (all_here (λ (t : AttItem). t.segment) live.attachments) (one_here (λ (m : MetaItem). m.segment) live.metadata)))));
+      walk_end = refl;
+      even = even;
+      rising = rising_chained 0 ds (zeros_low ds) is.deleted_rise (λ p. omega (arith, few p));
+    }
+
+-- a state without formers
+pub opened_sound : (image : List ℕ) (live : Live) (s : State) → Lies image live s → s.formers ≡ [] → IsSound s
+opened_sound image live s lies none =
+    let tl : Tiling image live s = tiling image live s lies in
+    let nothing : held s ≡ [] = ap (λ z. spans_of (held_by (items_of s.layout) z)) none in
+    record {
+      layout = subst IsExact (sym tl.layout) (tiled_exact image live tl.deleted tl.unknown tl.tiled (steady_even image lies.steady));
+      held_whole = subst (AllByRecursion IsWhole) (sym nothing) tt;
+      held_in = subst (AllByRecursion (λ (h : Span). LiesInOne h s.layout.deleted)) (sym nothing) tt;
+      held_once = λ p. omega (arith, ap (λ z. cover z p) nothing);
+      formers = subst (AllByRecursion (λ (f : Former). AreItems f.items)) (sym none) tt;
+    }

@@ -1,5 +1,5 @@
 -- The laws of steady images and of edits, as statements.
-use Rattle.std.specs.Prelude.{◌≡◌, ◌⊎◌, ℕ, ◌+◌, ◌-◌, List, length, filter, Ok}
+use Rattle.std.specs.Prelude.{◌≡◌, ◌⊎◌, ℕ, ◌+◌, ◌-◌, List, [], length, filter, Ok}
 use Rattle.std.specs.List.{AllByRecursion}
 use Rattle.czi_format.specs.Document.{Document}
 use Rattle.czi_format.specs.Layout.{Layout, HasLayout, IsSteady, is_free, is_unknown}
@@ -32,20 +32,24 @@ abbrev pub HolesAreFree : Type 0
 HolesAreFree = (a b : List ℕ) (l : Layout) (held : List Span) (d : Document) → IsSteady a → HasLayout a l → SameOutside a b (holes held l.deleted) → Shows a d → Shows b d × HasLayout b l × IsSteady b
 
 
--- a command leads from one state to another: an edit, or an undo
-abbrev pub Leads : State → State → Type 0
-Leads s s' = ((c : Edit) × (after_edit s c ≡ Ok s')) ⊎ (after_undo s ≡ Ok s')
-
--- edits and undos keep a state sound
-abbrev pub StaysSound : Type 0
-StaysSound = (s s' : State) → IsSound s → Leads s s' → IsSound s'
-
 -- A state lies in a steady image.
 pub record Lies (image : List ℕ) (live : Live) (s : State) : Type 0 where
   pub reaches : Reaches image live
   pub document : s.document ≡ document image live
   pub steady : IsSteady image
   pub layout : HasLayout image s.layout
+
+-- the state of a steady image, without formers, is sound
+abbrev pub OpensSound : Type 0
+OpensSound = (image : List ℕ) (live : Live) (s : State) → Lies image live s → s.formers ≡ [] → IsSound s
+
+-- a command leads from one state to another: an edit, or an undo
+abbrev pub Leads : State → State → Type 0
+Leads s s' = ((c : Edit) × (after_edit s c ≡ Ok s')) ⊎ (after_undo s ≡ Ok s')
+
+-- and edits and undos keep a state sound
+abbrev pub StaysSound : Type 0
+StaysSound = (s s' : State) → IsSound s → Leads s s' → IsSound s'
 
 -- After a command was written, the image shows the document of the state to which the command leads, has that state's
 -- layout, and is steady.
@@ -56,7 +60,6 @@ Commands = (image other : List ℕ) (s s' : State) (live : Live) (t : Turn) (pie
 
 -- The bytes of held spans past their first 32 are kept.
 abbrev pub KeepsHeld : Type 0
-KeepsHeld = (image other : List ℕ) (s s' : State) (live : Live) (t : Turn) (pieces : List Piece) → Lies image live s → IsSound s → Leads s s'
-    → LiesAt s'.layout (turned t live) → s'.document ≡ after (effect_of other t) s.document
+KeepsHeld = (image other : List ℕ) (s s' : State) (live : Live) (t : Turn) (pieces : List Piece) → Lies image live s → IsSound s → Leads s s' → LiesAt s'.layout (turned t live)
     → Writes image other t live s'.layout.length s.layout.deleted s'.layout.deleted pieces
     → AllByRecursion (λ (h : Span). bytes_at other (h.at + 32) (h.len - 32) ≡ bytes_at image (h.at + 32) (h.len - 32)) (held s')
