@@ -22,3 +22,5 @@ pub mod Shown
 pub mod Led
 pub mod Lying
 pub mod Command
+pub mod NewSegment
+pub mod NewDirectory

@@ -11,8 +11,8 @@ pub mod Holes
 pub mod Written
 pub mod Recovered
 pub mod Headline
-pub mod DirectoryData
+pub mod Data
 pub mod Turn
 pub mod Writes
-pub mod SubblockData
+pub mod Puts
 pub mod Laws
