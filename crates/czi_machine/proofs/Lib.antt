@@ -24,3 +24,4 @@ pub mod Lying
 pub mod Command
 pub mod NewSegment
 pub mod NewDirectory
+pub mod NewItems
