@@ -25,3 +25,4 @@ pub mod Command
 pub mod NewSegment
 pub mod NewDirectory
 pub mod NewItems
+pub mod Omitted
