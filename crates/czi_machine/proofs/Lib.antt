@@ -26,3 +26,4 @@ pub mod NewSegment
 pub mod NewDirectory
 pub mod NewItems
 pub mod Omitted
+pub mod Table

@@ -2,6 +2,7 @@ pub mod Change
 pub mod Edit
 pub mod State
 pub mod Places
+pub mod Table
 pub mod Machine
 pub mod Said
 pub mod Cover

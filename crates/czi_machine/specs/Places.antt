@@ -174,9 +174,9 @@ leaving l n = not_among (staying (items_asked n)) (item_places (items_of l)) ++ 
 abbrev pub can_be_used : Place → Bool
 can_be_used p = p.walked && is_aligned p.span
 
--- The layout with these places, after what is live no more was freed.
-abbrev pub relaid : Layout → Next → Placed → Layout
-relaid l n p = record {
+-- The layout with these places, after others were freed.
+abbrev pub freeing : Layout → Placed → List Place → Layout
+freeing l p gone = record {
   length = p.length;
   header = l.header;
   directory = p.directory;
@@ -185,9 +185,13 @@ relaid l n p = record {
   subblocks = p.items.subblocks;
   attachments = p.items.attachments;
   walk_end = if walk_goes_on l && nat_lt l.length p.length then p.length else l.walk_end;
-  deleted = deleted_after p.used (spans_of (filter can_be_used (leaving l n))) l.deleted;
+  deleted = deleted_after p.used (spans_of (filter can_be_used gone)) l.deleted;
   unknown = l.unknown;
 }
+
+-- the layout with these places, after what is live no more was freed
+abbrev pub relaid : Layout → Next → Placed → Layout
+relaid l n p = freeing l p (leaving l n)
 
 -- the layout in which this is live
 abbrev pub laid : State → Next → Result Layout Full
