@@ -27,3 +27,4 @@ pub mod NewDirectory
 pub mod NewItems
 pub mod Omitted
 pub mod Table
+pub mod TableMore

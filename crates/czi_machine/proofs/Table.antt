@@ -30,10 +30,10 @@ option_stays l space None = refl
 option_stays l space (Some p) = refl
 
 -- what an edit brings is placed in order
-placed_change : Layout → List Place → Result (Fitted (List (Act Place))) Full → FittedItems
+unfoldable pub placed_change : Layout → List Place → Result (Fitted (List (Act Place))) Full → FittedItems
 placed_change l ps r = r >>= λ f. Ok (record { places = changed f.places ps; back = []; used = f.used; space = f.space })
 
-each_brought : {X : Type 0} (l : Layout) (space : Space) (need : X → ℕ) (c : List (Act X)) (ps : List Place)
+pub each_brought : {X : Type 0} (l : Layout) (space : Space) (need : X → ℕ) (c : List (Act X)) (ps : List Place)
     → fit_each l space (changed (mapped (λ x. fresh (need x)) c) (map stays ps)) ≡ placed_change l ps (fit_brought l space need c)
 unfolding placed_change
 each_brought l space need [] ps = each_stays l space ps
@@ -108,19 +108,19 @@ change_moves g c ps moves e = elim (cases_Bool (all_stay ps (changed (mapped g c
   | inl t ↦ absurd (omega (arith, all_stay_length ps (changed (mapped g c) (map stays ps)) t, shorter g c ps (nothing_new g c ps ps moves t) e))
 ]
 
-nil_right : {X : Type 0} (xs : List X) → xs ++ [] ≡ xs
+pub nil_right : {X : Type 0} (xs : List X) → xs ++ [] ≡ xs
 nil_right [] = refl
 nil_right (x ∷ xs) = ap (λ l. x ∷ l) (nil_right xs)
 
 -- what is next, by a change of each part
-asked_by : {S A M : Type 0} (f : S → Asked) (g : A → Asked) (h : M → Asked) → List (Act S) → List (Act A) → Setting M → Layout → List Asked
+unfoldable pub asked_by : {S A M : Type 0} (f : S → Asked) (g : A → Asked) (h : M → Asked) → List (Act S) → List (Act A) → Setting M → Layout → List Asked
 asked_by f g h cs ca cm l = changed (mapped f cs) (map stays l.subblocks) ++ (changed (mapped g ca) (map stays l.attachments) ++ option_to_list (set (mapped_setting h cm) (option_map stays l.metadata)))
 
-Moves : {X : Type 0} → (X → Asked) → Type 0
+unfoldable pub Moves : {X : Type 0} → (X → Asked) → Type 0
 Moves {X} g = (x : X) (as' : List Asked) → staying (g x ∷ as') ≡ staying as'
 
 -- the items that leave
-items_leave : {S A M : Type 0} (f : S → Asked) (g : A → Asked) (h : M → Asked) (cs : List (Act S)) (ca : List (Act A)) (cm : Setting M) (l : Layout) → Moves f → Moves g → Moves h → AreApart l
+pub items_leave : {S A M : Type 0} (f : S → Asked) (g : A → Asked) (h : M → Asked) (cs : List (Act S)) (ca : List (Act A)) (cm : Setting M) (l : Layout) → Moves f → Moves g → Moves h → AreApart l
     → not_among (staying (asked_by f g h cs ca cm l)) (item_places (items_of l)) ≡ omitted cs l.subblocks ++ (omitted ca l.attachments ++ option_to_list (set_omitted cm l.metadata))
 unfolding asked_by Moves
 items_leave f g h cs ca cm l mf mg mh apart =
@@ -141,7 +141,7 @@ items_leave f g h cs ca cm l mf mg mh apart =
     (λ p. omega (arith, apart.once p, cover-live_places l p)) some.0
 
 -- the directories that leave
-directories_leave : (l : Layout) (a b : Bool) (m n : ℕ) → AreApart l
+pub directories_leave : (l : Layout) (a b : Bool) (m n : ℕ) → AreApart l
     → not_among (staying (option_to_list (directory_asked l.directory a m) ++ option_to_list (directory_asked l.attdir b n))) (directories l)
     ≡ option_to_list (if a then None else l.directory) ++ option_to_list (if b then None else l.attdir)
 directories_leave l a b m n apart =
@@ -157,7 +157,7 @@ directories_leave l a b m n apart =
     ∙ not_kept (directories l) (kd ++ kx) (od ++ ox) (parted_both (option_to_list l.directory) kd od (option_to_list l.attdir) kx ox (parted_directory a l.directory) (parted_directory b l.attdir))
     (λ p. omega (arith, apart.once p, cover-live_places l p)) some.1
 
-new_moves : {X : Type 0} (need : X → ℕ) → Moves (λ x. fresh (need x))
+pub new_moves : {X : Type 0} (need : X → ℕ) → Moves (λ x. fresh (need x))
 unfolding Moves
 new_moves need x as' = refl
 
@@ -174,7 +174,7 @@ subblocks_leave s c apart moved =
     ∙ ((λ i. nil_right (omitted c l.subblocks) i ++ (option_to_list (if moved i then None else l.directory) ++ option_to_list (if all_stay_same l.attachments i then None else l.attdir)))
     ∙ ap (λ z. omitted c l.subblocks ++ z) (nil_right (option_to_list l.directory)))
 
-new_never : {X : Type 0} (need : X → ℕ) (p : Place) (x : X) → stays_at p (fresh (need x)) ≡ false
+pub new_never : {X : Type 0} (need : X → ℕ) (p : Place) (x : X) → stays_at p (fresh (need x)) ≡ false
 new_never need p x = refl
 
 subblocks_moved : (s : State) (c : List (Act Subblock)) → changes c (length s.layout.subblocks) ≡ true → all_stay s.layout.subblocks (changed (mapped (λ x. fresh (subblock_need x)) c) (map stays s.layout.subblocks)) ≡ false
