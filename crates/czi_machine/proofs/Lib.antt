@@ -28,3 +28,4 @@ pub mod NewItems
 pub mod Omitted
 pub mod Table
 pub mod TableMore
+pub mod TableUndo
