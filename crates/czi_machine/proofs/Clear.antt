@@ -15,7 +15,7 @@ use Rattle.czi_format.proofs.Readings.{bind_some, given_some, is_sound, segment_
 use Rattle.czi_machine.specs.Change.{Act, changed, kept, brought, Setting, same, to, set, set_new, set_kept}
 use Rattle.czi_machine.specs.Cover.{between, cover, IsWhole}
 use Rattle.czi_machine.specs.Turn.{Turn, turned, new_segments, kept_segments}
-use Rattle.czi_machine.specs.Writes.{head, writable, WritesAround}
+use Rattle.czi_machine.specs.Writes.{head, writable, WritesIn}
 use Rattle.czi_machine.specs.Written.{Piece, byte_of, IsClear, Wrote}
 use Rattle.czi_machine.proofs.Changing.{All-kept, cover-changed}
 use Rattle.czi_machine.proofs.Cover.{between_in, between_low, between_high, cover-append}
@@ -91,45 +91,49 @@ kept_have P live t all =
     (All-both P (option_to_list (option_map d (set_kept t.attdir live.attdir))) _ (All-set P d t.attdir live.attdir th.0)
     (All-both P (map a (kept t.attachments live.attachments)) _ (All-listed P a t.attachments live.attachments four.0) (All-set P m t.metadata live.metadata four.1))))
 
--- What is live afterwards and the DELETED extents afterwards have no place twice.
-pub record AreOnce (live : Live) (t : Turn) (after : List Span) : Type 0 where
-  pub once : (p : ℕ) → cover (map extent (segments (turned t live))) p + cover after p ≤ 1
-  pub whole : AllByRecursion IsWhole after
+-- a span that has room for a header
+abbrev pub IsLong : Span → Type 0
+IsLong e = 32 ≤ e.len
 
-pub heads_within : (es : List Span) (p : ℕ) → AllByRecursion IsWhole es → cover (map head es) p ≤ cover es p
+-- What is live afterwards, and some other spans, have no place twice.
+pub record AreOnce (live : Live) (t : Turn) (marks : List Span) : Type 0 where
+  pub once : (p : ℕ) → cover (map extent (segments (turned t live))) p + cover marks p ≤ 1
+  pub long : AllByRecursion IsLong marks
+
+pub heads_within : (es : List Span) (p : ℕ) → AllByRecursion IsLong es → cover (map head es) p ≤ cover es p
 heads_within [] p all = omega arith
 heads_within (e ∷ es) p all =
     let rest = heads_within es p all.1 in
     elim (cases_lt p e.at) [
       | inl h ↦ omega (arith, rest, between_low e.at (e.at + 32) p h)
       | inr h ↦ elim (cases_lt p (e.at + 32)) [
-        | inl k ↦ omega (arith, rest, between_in e.at (end_of e) p h (omega (arith, k, all.0.len, all.0.some)), between_one e.at (e.at + 32) p)
+        | inl k ↦ omega (arith, rest, between_in e.at (end_of e) p h (omega (arith, k, all.0)), between_one e.at (e.at + 32) p)
         | inr k ↦ omega (arith, rest, between_high e.at (e.at + 32) p k)
       ]
     ]
 
 -- where is written: pointers, what is new, or a DELETED extent
-writable_cover : (t : Turn) (after : List Span) (p : ℕ) → AllByRecursion IsWhole after
-    → cover (writable t after) p ≤ between 84 100 p + (between 104 112 p + (cover (map extent (new_segments t)) p + cover after p))
-writable_cover t after p whole = omega (arith, cover-append (map extent (new_segments t)) (map head after) p, heads_within after p whole)
+writable_cover : (t : Turn) (marks : List Span) (p : ℕ) → AllByRecursion IsLong marks
+    → cover (writable t marks) p ≤ between 84 100 p + (between 104 112 p + (cover (map extent (new_segments t)) p + cover marks p))
+writable_cover t marks p whole = omega (arith, cover-append (map extent (new_segments t)) (map head marks) p, heads_within marks p whole)
 
 -- a place that isn't writable isn't written
-pub nothing_written : (t : Turn) (before after : List Span) (pieces : List Piece) (q : ℕ) → WritesAround t before after pieces
-    → between 84 100 q + (between 104 112 q + (cover (map extent (new_segments t)) q + cover (map head after) q)) ≡ 0 → byte_of pieces q ≡ None
-nothing_written t before after pieces q around none = on_byte (byte_of pieces q) refl
+pub nothing_written : (t : Turn) (marks : List Span) (pieces : List Piece) (q : ℕ) → WritesIn t marks pieces
+    → between 84 100 q + (between 104 112 q + (cover (map extent (new_segments t)) q + cover (map head marks) q)) ≡ 0 → byte_of pieces q ≡ None
+nothing_written t marks pieces q around none = on_byte (byte_of pieces q) refl
   where
     on_byte : (o : Option ℕ) → byte_of pieces q ≡ o → o ≡ None
     on_byte None e = refl
-    on_byte (Some b) e = absurd (omega (arith, around.within q b e, cover-append (map extent (new_segments t)) (map head after) q, none))
+    on_byte (Some b) e = absurd (omega (arith, around.within q b e, cover-append (map extent (new_segments t)) (map head marks) q, none))
 
 -- a place that is none of these isn't written
-pub not_written : (t : Turn) (before after : List Span) (pieces : List Piece) (q : ℕ) → WritesAround t before after pieces → AllByRecursion IsWhole after
-    → between 84 100 q + (between 104 112 q + (cover (map extent (new_segments t)) q + cover after q)) ≡ 0 → byte_of pieces q ≡ None
-not_written t before after pieces q around whole none = on_byte (byte_of pieces q) refl
+pub not_written : (t : Turn) (marks : List Span) (pieces : List Piece) (q : ℕ) → WritesIn t marks pieces → AllByRecursion IsLong marks
+    → between 84 100 q + (between 104 112 q + (cover (map extent (new_segments t)) q + cover marks q)) ≡ 0 → byte_of pieces q ≡ None
+not_written t marks pieces q around whole none = on_byte (byte_of pieces q) refl
   where
     on_byte : (o : Option ℕ) → byte_of pieces q ≡ o → o ≡ None
     on_byte None e = refl
-    on_byte (Some b) e = absurd (omega (arith, around.within q b e, writable_cover t after q whole, none))
+    on_byte (Some b) e = absurd (omega (arith, around.within q b e, writable_cover t marks q whole, none))
 
 -- The file header stands at 0, with at least 80 bytes of data.
 pub record HeaderAt (image : List ℕ) (h : Segment) : Type 0 where
@@ -147,10 +151,10 @@ header_at_front image live reaches =
     record { place = sym first; large = head.1; inside = omega (arith, stands.inside, first) }
 
 -- the file header is written at its pointers alone
-pub header_clear : (image : List ℕ) (live : Live) (t : Turn) (before after : List Span) (pieces : List Piece) (from end : ℕ) → HeaderAt image live.header.segment → WritesAround t before after pieces → AreOnce live t after
+pub header_clear : (image : List ℕ) (live : Live) (t : Turn) (marks : List Span) (pieces : List Piece) (from end : ℕ) → HeaderAt image live.header.segment → WritesIn t marks pieces → AreOnce live t marks
     → end ≤ 112 → ((q : ℕ) → from ≤ q → q < end → between 84 100 q + between 104 112 q ≡ 0) → IsClear pieces from end
-header_clear image live t before after pieces from end at around once fits out q low high =
-    not_written t before after pieces q around once.whole (omega (
+header_clear image live t marks pieces from end at around once fits out q low high =
+    not_written t marks pieces q around once.long (omega (
       arith,
       out q low high,
       once.once q,
@@ -159,10 +163,10 @@ header_clear image live t before after pieces from end at around once fits out q
     ))
 
 -- a segment that has no place with what is new, with DELETED extents or with the file header isn't written
-pub segment_clear : (image : List ℕ) (live : Live) (t : Turn) (before after : List Span) (pieces : List Piece) (s : Segment) → HeaderAt image live.header.segment → WritesAround t before after pieces → AreOnce live t after
-    → ((p : ℕ) → between s.at (end_of (extent s)) p + (between live.header.segment.at (end_of (extent live.header.segment)) p + (cover (map extent (new_segments t)) p + cover after p)) ≤ 1)
+pub segment_clear : (image : List ℕ) (live : Live) (t : Turn) (marks : List Span) (pieces : List Piece) (s : Segment) → HeaderAt image live.header.segment → WritesIn t marks pieces → AreOnce live t marks
+    → ((p : ℕ) → between s.at (end_of (extent s)) p + (between live.header.segment.at (end_of (extent live.header.segment)) p + (cover (map extent (new_segments t)) p + cover marks p)) ≤ 1)
     → IsClear pieces s.at (end_of (extent s)) × (112 ≤ s.at)
-segment_clear image live t before after pieces s at around once apart =
+segment_clear image live t marks pieces s at around once apart =
     let H : Segment = live.header.segment in
     let low : 112 ≤ s.at = elim (cases_lt s.at 112) [
       | inl h ↦ absurd (omega (
@@ -173,29 +177,29 @@ segment_clear image live t before after pieces s at around once apart =
       ))
       | inr h ↦ h
     ] in (
-      λ q l h. not_written t before after pieces q around once.whole
+      λ q l h. not_written t marks pieces q around once.long
           (omega (arith, apart q, between_in s.at (end_of (extent s)) q l h, between_high 84 100 q (omega (arith, low, l)), between_high 104 112 q (omega (arith, low, l)))),
       low,
     )
 
 -- so it is as before
-pub segment_kept : (image other : List ℕ) (live : Live) (t : Turn) (before after : List Span) (pieces : List Piece) (s : Segment) → HeaderAt image live.header.segment → WritesAround t before after pieces → AreOnce live t after
+pub segment_kept : (image other : List ℕ) (live : Live) (t : Turn) (marks : List Span) (pieces : List Piece) (s : Segment) → HeaderAt image live.header.segment → WritesIn t marks pieces → AreOnce live t marks
     → Wrote image other pieces → length image ≤ length other → end_of (extent s) ≤ length image
-    → ((p : ℕ) → between s.at (end_of (extent s)) p + (between live.header.segment.at (end_of (extent live.header.segment)) p + (cover (map extent (new_segments t)) p + cover after p)) ≤ 1)
+    → ((p : ℕ) → between s.at (end_of (extent s)) p + (between live.header.segment.at (end_of (extent live.header.segment)) p + (cover (map extent (new_segments t)) p + cover marks p)) ≤ 1)
     → SameExtent image other s
-segment_kept image other live t before after pieces s at around once wrote longer inside apart =
-    let c = segment_clear image live t before after pieces s at around once apart in
+segment_kept image other live t marks pieces s at around once wrote longer inside apart =
+    let c = segment_clear image live t marks pieces s at around once apart in
     clear_bytes image other pieces s.at (32 + s.allocated) wrote c.0 inside (omega (arith, inside, longer)) (inr (omega (arith, c.1)))
 
-pub all_kept : (image other : List ℕ) (live : Live) (t : Turn) (before after : List Span) (pieces : List Piece) → Reaches image live → WritesAround t before after pieces → AreOnce live t after
+pub all_kept : (image other : List ℕ) (live : Live) (t : Turn) (marks : List Span) (pieces : List Piece) → Reaches image live → WritesIn t marks pieces → AreOnce live t marks
     → Wrote image other pieces → length image ≤ length other → AllByRecursion (SameExtent image other) (kept_segments t live)
-all_kept image other live t before after pieces reaches around once wrote longer =
+all_kept image other live t marks pieces reaches around once wrote longer =
     let at = header_at_front image live reaches in
     let K : List Segment = kept_segments t live in
     let stood : AllByRecursion (StandsLive image) K = kept_have (StandsLive image) live t (live_stands image live reaches).1 in
     on_all (StandsLive image) (λ (s : Segment). (p : ℕ) → between s.at (end_of (extent s)) p ≤ cover (map extent K) p) (SameExtent image other)
     (λ s stands m. let inside = stands_inside image s.at s stands.stands in
-    segment_kept image other live t before after pieces s at around once wrote longer (omega (arith, inside.1)) (λ p. omega (arith, m p, once.once p, turned_cover live t p))) K stood (places_among K)
+    segment_kept image other live t marks pieces s at around once wrote longer (omega (arith, inside.1)) (λ p. omega (arith, m p, once.once p, turned_cover live t p))) K stood (places_among K)
 
 -- a segment whose header isn't written still stands
 pub stands_still : (image other : List ℕ) (pieces : List Piece) (s : Segment) → Wrote image other pieces → length image ≤ length other → 101 ≤ s.at → stands_at image s.at ≡ Some s → IsClear pieces s.at (s.at + 32)

@@ -1,7 +1,7 @@
 -- The law of commands over bytes: an image into which a command was written shows the document of the state to which the
 -- command leads, has that state's layout, and is steady. And the bytes of held spans are kept.
-use Rattle.std.proofs.Common.{◌≡◌, ℕ, ◌+◌, ◌-◌, ◌%◌, ◌≤◌, ◌<◌, ◌^◌, pos, List, [], ◌∷◌, ◌++◌, map, length, true, Option, Some, None, option_map, option_to_list, refl, ap, sym, ◌∙◌, arith, subst, ◌⊎◌, inl, inr, bytes_eq, length-append}
-use Rattle.std.specs.List.{AllByRecursion, list_any}
+use Rattle.std.proofs.Common.{◌≡◌, ℕ, ◌+◌, ◌-◌, ◌%◌, ◌≤◌, ◌<◌, ◌^◌, pos, List, [], ◌∷◌, ◌++◌, map, length, true, not, Option, Some, None, option_map, option_to_list, refl, ap, sym, ◌∙◌, arith, subst, ◌⊎◌, inl, inr, bytes_eq, length-append}
+use Rattle.std.specs.List.{AllByRecursion, filter, list_any}
 use Rattle.std.proofs.lemmas.Bool.{cases_lt, cases_Bool}
 use Rattle.czi_format.specs.Bytes.{bytes_at, i64_bytes}
 use Rattle.czi_format.specs.Layout.{Place, Layout, HasLayout, IsSteady}
@@ -15,15 +15,16 @@ use Rattle.czi_format.proofs.Written.{header_again}
 use Rattle.czi_machine.specs.Cover.{between, cover, Chained, IsWhole, LiesInOne}
 use Rattle.czi_machine.specs.Edit.{after}
 use Rattle.czi_machine.specs.Laws.{Leads, Lies}
+use Rattle.czi_machine.specs.Places.{can_be_used, live_places}
 use Rattle.czi_machine.specs.Sound.{all_places, live_spans, IsExact, IsSound}
-use Rattle.czi_machine.specs.State.{State, held, spans_of}
+use Rattle.czi_machine.specs.State.{State, held, spans_of, not_among}
 use Rattle.czi_machine.specs.Tiled.{IsRising, IsTiled, here, tiled_layout, all_segments}
 use Rattle.czi_machine.specs.Turn.{Turn, turned, new_segments, effect_of, LiesAt}
-use Rattle.czi_machine.specs.Writes.{head, deleted_segment, PutsDeleted, WritesAround, Writes}
+use Rattle.czi_machine.specs.Writes.{head, deleted_segment, PutsDeleted, dead, marked, Writes}
 use Rattle.czi_machine.specs.Written.{Piece, byte_of, Puts, IsClear, Wrote}
-use Rattle.czi_machine.proofs.Clear.{HeaderAt, AreOnce, header_at_front, segment_clear, stands_still, turned_cover, nothing_written, heads_within}
+use Rattle.czi_machine.proofs.Clear.{HeaderAt, AreOnce, header_at_front, segment_clear, stands_still, IsLong, turned_cover, nothing_written, heads_within}
 use Rattle.czi_machine.proofs.Cover.{between_in, between_low, between_high, cover-append}
-use Rattle.czi_machine.proofs.Exact.{in_one_covers, none_behind}
+use Rattle.czi_machine.proofs.Exact.{in_one_covers, usable_places}
 use Rattle.czi_machine.proofs.Keeps.{whole_aligned}
 use Rattle.czi_machine.proofs.Leaving.{same_is}
 use Rattle.czi_machine.proofs.Led.{Led, led}
@@ -104,12 +105,33 @@ all_deleted other (e ∷ es) all =
     let rest = all_deleted other es all.1 in
     record { segments = all.0.segment ∷ rest.segments; are = λ i. all.0.is i ∷ rest.are i; stand = (all.0.stands, rest.stand); named = (all.0.named, rest.named) }
 
+nil_right : {X : Type 0} (xs : List X) → xs ++ [] ≡ xs
+nil_right [] = refl
+nil_right (x ∷ xs) = ap (λ l. x ∷ l) (nil_right xs)
+
+whole_long : (es : List Span) → AllByRecursion IsWhole es → AllByRecursion IsLong es
+whole_long es all = All-weaken IsWhole IsLong (λ e w. omega (arith, w.len, w.some)) es all
+
+-- where the layout fills the image, all that was live can be used again
+nothing_dead : (l l' : Layout) → IsExact l → dead l l' ≡ []
+nothing_dead l l' is = ap spans_of (none_passes (live_places l) (usable_places l is))
+  where
+    none_passes : (ps : List Place) → AllByRecursion (λ (p : Place). can_be_used p ≡ true) ps → filter (λ (p : Place). not (can_be_used p)) (not_among (spans_of (live_places l')) ps) ≡ []
+    none_passes [] all = refl
+    none_passes (p ∷ ps) all =
+        let rest = none_passes ps all.1 in
+        elim (cases_Bool (not (list_any (same_span p.span) (spans_of (live_places l'))))) [
+          | inl e ↦ rw e (rw (all.0) rest)
+          | inr e ↦ rw e rest
+        ]
+
 -- What is known of an image into which a command was written, and of the state to which the command leads.
 pub record Written (image other : List ℕ) (live : Live) (s s' : State) (t : Turn) (pieces : List Piece) : Type 0 where
   pub tiles : Tiling image live s
   pub sound : IsSound s'
   pub total : (p : ℕ) → cover (map extent (segments (turned t live))) p + (cover s'.layout.deleted p + cover (map extent tiles.unknown) p) ≡ between 0 s'.layout.length p
-  pub once : AreOnce live t s'.layout.deleted
+  pub marks : marked s.layout s'.layout ≡ s'.layout.deleted
+  pub once : AreOnce live t (marked s.layout s'.layout)
   pub header : s'.layout.header ≡ here live.header.segment
   pub unknown : s'.layout.unknown ≡ map extent tiles.unknown
   pub longer : length image ≤ s'.layout.length
@@ -126,11 +148,13 @@ was_written image other s s' live t pieces lies is leads at =
     let spans : live_spans s'.layout ≡ map extent (segments (turned t live)) = λ i. (header i).span ∷ lying_spans s'.layout (turned t live) at i in
     let total : (p : ℕ) → cover (map extent (segments (turned t live))) p + (cover s'.layout.deleted p + cover (map extent tl.unknown) p) ≡ between 0 s'.layout.length p =
     λ p. omega (arith, exact.once p, ap (λ z. cover z p) spans, ap (λ z. cover z p) unknown) in
+    let marks : marked s.layout s'.layout ≡ s'.layout.deleted = ap (λ z. s'.layout.deleted ++ z) (nothing_dead s.layout s'.layout is.layout) ∙ nil_right s'.layout.deleted in
     record {
       tiles = tl;
       sound = l.sound;
       total = total;
-      once = record { once = λ p. omega (arith, total p, between_one 0 s'.layout.length p); whole = exact.deleted_whole };
+      marks = marks;
+      once = record { once = λ p. omega (arith, total p, between_one 0 s'.layout.length p, ap (λ z. cover z p) marks); long = subst (AllByRecursion IsLong) (sym marks) (whole_long s'.layout.deleted exact.deleted_whole) };
       header = header;
       unknown = unknown;
       longer = omega (arith, l.longer, ap (λ (z : Layout). z.length) tl.layout);
@@ -152,7 +176,7 @@ ends_inside (e ∷ es) n whole none = (
 -- The theorem.
 pub commanded : (image other : List ℕ) (s s' : State) (live : Live) (t : Turn) (pieces : List Piece) → Lies image live s → IsSound s → Leads s s'
     → LiesAt s'.layout (turned t live) → s'.document ≡ after (effect_of other t) s.document
-    → Writes image other t live s'.layout.length s.layout.deleted s'.layout.deleted pieces → Lies other (turned t live) s'
+    → Writes image other t live s.layout s'.layout pieces → Lies other (turned t live) s'
 commanded image other s s' live t pieces lies is leads at document_is w =
     let k : Written image other live s s' t pieces = was_written image other s s' live t pieces lies is leads at in
     let tl : Tiling image live s = k.tiles in
@@ -164,8 +188,8 @@ commanded image other s s' live t pieces lies is leads at document_is w =
     let exact : IsExact s'.layout = k.sound.layout in
     let longer : length image ≤ length other = omega (arith, k.longer, w.long) in
     let front : HeaderAt image H = header_at_front image live lies.reaches in
-    let reaches : Reaches other live' = reaches_turned image other live t s.layout.deleted D pieces lies.reaches w.around k.once w.wrote longer w.new in
-    let shown = document_turned image other live t s.layout.deleted D pieces lies.reaches w.around k.once w.wrote longer in
+    let reaches : Reaches other live' = reaches_turned image other live t (marked s.layout s'.layout) pieces lies.reaches w.around.inside k.once w.wrote longer w.new in
+    let shown = document_turned image other live t (marked s.layout s'.layout) pieces lies.reaches w.around.inside k.once w.wrote longer in
     let stood = parts (λ (x : Segment). stands_at image x.at ≡ Some x) live ds us tl.tiled.stand in
     let inside : AllByRecursion (λ (e : Span). end_of e ≤ length other) D = ends_inside D (length other) exact.deleted_whole (λ p h. omega (arith, k.total p, between_high 0 s'.layout.length p (omega (arith, h, w.long)))) in
     let far : AllByRecursion (λ (e : Span). 112 ≤ e.at) D =
@@ -176,6 +200,7 @@ commanded image other s s' live t pieces lies is leads at document_is w =
         m e.at,
         between_in e.at (end_of e) e.at (omega arith) (omega (arith, whole.some)),
         k.once.once e.at,
+        ap (λ z. cover z e.at) k.marks,
         turned_cover live t e.at,
         between_in H.at (end_of (extent H)) e.at (omega (arith, front.place)) (omega (arith, front.place, front.large, h)),
       ))
@@ -196,7 +221,7 @@ commanded image other s s' live t pieces lies is leads at document_is w =
     let d : Deleted other D = all_deleted other D stand_deleted in
     let us_stand : AllByRecursion (λ (x : Segment). stands_at other x.at ≡ Some x) us =
     on_all (λ (x : Segment). stands_at image x.at ≡ Some x) (λ (x : Segment). (p : ℕ) → between x.at (end_of (extent x)) p ≤ cover (map extent us) p) (λ (x : Segment). stands_at other x.at ≡ Some x)
-    (λ x there m. let c = segment_clear image live t s.layout.deleted D pieces x front w.around k.once (λ p. omega (arith, m p, k.total p, turned_cover live t p, between_one 0 s'.layout.length p)) in
+    (λ x there m. let c = segment_clear image live t (marked s.layout s'.layout) pieces x front w.around.inside k.once (λ p. omega (arith, m p, ap (λ z. cover z p) k.marks, k.total p, turned_cover live t p, between_one 0 s'.layout.length p)) in
     stands_still image other pieces x w.wrote longer (omega (arith, c.1)) there (λ q low high. c.0 q low (omega (arith, high)))) us stood.unknown (places_among us) in
     let lives : AllByRecursion (StandsLive other) (segments live') = live_stands other live' reaches in
     let spans : live_spans s'.layout ≡ map extent (segments live') = λ i. (k.header i).span ∷ lying_spans s'.layout live' at i in
@@ -238,7 +263,7 @@ commanded image other s s' live t pieces lies is leads at document_is w =
 heads_clear : (h : Span) (es : List Span) (q : ℕ) → LiesInOne h es → AllByRecursion IsWhole es → cover es q ≤ 1 → h.at + 32 ≤ q → q < end_of h → cover (map head es) q ≡ 0
 heads_clear h [] q none whole few low high = absurd none
 heads_clear h (e ∷ es) q (inl i) whole few low high =
-    omega (arith, few, heads_within es q whole.1, between_in e.at (end_of e) q (omega (arith, i.0, low)) (omega (arith, i.1, high)), between_high e.at (e.at + 32) q (omega (arith, i.0, low)))
+    omega (arith, few, heads_within es q (whole_long es whole.1), between_in e.at (end_of e) q (omega (arith, i.0, low)) (omega (arith, i.1, high)), between_high e.at (e.at + 32) q (omega (arith, i.0, low)))
 heads_clear h (e ∷ es) q (inr i) whole few low high =
     omega (
       arith,
@@ -246,12 +271,12 @@ heads_clear h (e ∷ es) q (inr i) whole few low high =
       heads_clear h es q i whole.1 (omega (arith, few)) low high,
       in_one_covers h es q i,
       between_in h.at (end_of h) q (omega (arith, low)) high,
-      heads_within (e ∷ []) q (whole.0, tt),
+      heads_within (e ∷ []) q (whole_long (e ∷ []) (whole.0, tt)),
     )
 
 -- the bytes of held spans past their first 32
 pub held_kept : (image other : List ℕ) (s s' : State) (live : Live) (t : Turn) (pieces : List Piece) → Lies image live s → IsSound s → Leads s s'
-    → LiesAt s'.layout (turned t live) → Writes image other t live s'.layout.length s.layout.deleted s'.layout.deleted pieces
+    → LiesAt s'.layout (turned t live) → Writes image other t live s.layout s'.layout pieces
     → AllByRecursion (λ (h : Span). bytes_at other (h.at + 32) (h.len - 32) ≡ bytes_at image (h.at + 32) (h.len - 32)) (held s')
 held_kept image other s s' live t pieces lies is leads at w =
     let k : Written image other live s s' t pieces = was_written image other s s' live t pieces lies is leads at in
@@ -265,20 +290,22 @@ held_kept image other s s' live t pieces lies is leads at w =
     (λ h b i.
     let long : 32 ≤ h.len = omega (arith, b.0.len, b.0.some) in
     let places : (q : ℕ) → h.at ≤ q → q < end_of h → (112 ≤ q) × (cover D q ≡ 1) = λ q low high.
-    let here : cover D q ≡ 1 = omega (arith, k.once.once q, in_one_covers h D q i, between_in h.at (end_of h) q low high) in
+    let here : cover D q ≡ 1 = omega (arith, k.once.once q, ap (λ z. cover z q) k.marks, in_one_covers h D q i, between_in h.at (end_of h) q low high) in
     (elim (cases_lt q 112) [
-      | inl l ↦ absurd (omega (arith, here, k.once.once q, turned_cover live t q, between_in H.at (end_of (extent H)) q (omega (arith, front.place)) (omega (arith, front.place, front.large, l))))
+      | inl l ↦ absurd (omega (arith, here, k.once.once q, ap (λ z. cover z q) k.marks, turned_cover live t q, between_in H.at (end_of (extent H)) q (omega (arith, front.place)) (omega (arith, front.place, front.large, l))))
       | inr l ↦ l
     ], here) in
     let off : 112 ≤ h.at = (places h.at (omega arith) (omega (arith, b.0.some))).0 in
     let clear : IsClear pieces (h.at + 32) (h.at + 32 + (h.len - 32)) = λ q low high.
     let at' = places q (omega (arith, low)) (omega (arith, high, long)) in
-    nothing_written t s.layout.deleted D pieces q w.around
+    nothing_written t (marked s.layout s'.layout) pieces q w.around.inside
     (omega (
       arith,
       between_high 84 100 q (omega (arith, at'.0)),
       between_high 104 112 q at'.0,
       k.once.once q,
+      ap (λ z. cover z q) k.marks,
+      ap (λ z. cover (map head z) q) k.marks,
       turned_cover live t q,
       at'.1,
       heads_clear h D q i exact.deleted_whole (omega (arith, at'.1)) low (omega (arith, high, long)),

@@ -208,27 +208,26 @@ pub used_behind : (s : State) (n : Next) (pl : Placed) (at : Placing s n pl) (p 
 used_behind s n pl at p is nx large =
     omega (arith, at.used_is p, at.uses.behind p large, ap (λ z. between s.layout.length z p) at.length, nx.back_held p, held_deleted s p is, (none_behind s.layout p is.layout large).1)
 
--- what is freed, and what stays
-pub leaving_freed : (l : Layout) (n : Next) → IsExact l → spans_of (filter can_be_used (leaving l n)) ≡ spans_of (leaving l n)
-leaving_freed l n is =
-    let both : AllByRecursion (λ (p : Place). (p.walked ≡ true) × IsWhole p.span) (live_places l) =
-    on_places (live_places l) is.walked.1 (All-map (λ (p : Place). p.span) IsWhole (live_places l) is.live_whole.1) in
-    let usable : AllByRecursion (λ (p : Place). can_be_used p ≡ true) (live_places l) =
-    All-weaken _ (λ (p : Place). can_be_used p ≡ true) (λ p b. rw (b.0, whole_aligned p.span b.1)) (live_places l) both in
-    let parts = live_parts (λ (p : Place). can_be_used p ≡ true) l usable in
-    ap spans_of (all_pass (leaving l n) (All-both _ (not_among (staying (items_asked n)) (item_places (items_of l))) _
-    (All-filtered _ _ (item_places (items_of l)) parts.0) (All-filtered _ _ (directories l) parts.1)))
+-- what is live can be used again
+pub usable_places : (l : Layout) → IsExact l → AllByRecursion (λ (p : Place). can_be_used p ≡ true) (live_places l)
+usable_places l is =
+    All-weaken _ (λ (p : Place). can_be_used p ≡ true) (λ p b. rw (b.0, whole_aligned p.span b.1)) (live_places l)
+    (on_places (live_places l) is.walked.1 (All-map (λ (p : Place). p.span) IsWhole (live_places l) is.live_whole.1))
   where
     on_places : (xs : List Place) → AllByRecursion (λ (p : Place). p.walked ≡ true) xs → AllByRecursion (λ (p : Place). IsWhole p.span) xs → AllByRecursion (λ (p : Place). (p.walked ≡ true) × IsWhole p.span) xs
     on_places [] a b = tt
     on_places (x ∷ xs) a b = ((a.0, b.0), on_places xs a.1 b.1)
 
+-- what is freed, and what stays
+pub leaving_freed : (l : Layout) (n : Next) → IsExact l → spans_of (filter can_be_used (leaving l n)) ≡ spans_of (leaving l n)
+leaving_freed l n is =
+    let parts = live_parts (λ (p : Place). can_be_used p ≡ true) l (usable_places l is) in
+    ap spans_of (all_pass (leaving l n) (All-both _ (not_among (staying (items_asked n)) (item_places (items_of l))) _
+    (All-filter _ _ (item_places (items_of l)) parts.0) (All-filter _ _ (directories l) parts.1)))
+  where
     all_pass : (xs : List Place) → AllByRecursion (λ (p : Place). can_be_used p ≡ true) xs → filter can_be_used xs ≡ xs
     all_pass [] all = refl
     all_pass (x ∷ xs) all = rw (all.0) (ap (λ l. x ∷ l) (all_pass xs all.1))
-
-    All-filtered : (P : Place → Type 0) (q : Place → Bool) (xs : List Place) → AllByRecursion P xs → AllByRecursion P (filter q xs)
-    All-filtered P q xs all = All-filter P q xs all
 
 pub leaving_whole : (l : Layout) (n : Next) → IsExact l → AllByRecursion IsWhole (spans_of (leaving l n))
 leaving_whole l n is =

@@ -10,7 +10,7 @@ use Rattle.czi_format.proofs.Local.{i32_same, i64_same, same_part, header_is, he
 use Rattle.czi_format.proofs.Readings.{IsHeader, header_is_read, read_header_is}
 use Rattle.czi_machine.specs.Change.{Setting, same, to}
 use Rattle.czi_machine.specs.Turn.{Turn, turned, position_of, pointer}
-use Rattle.czi_machine.specs.Writes.{PutsPointer, WritesAround}
+use Rattle.czi_machine.specs.Writes.{PutsPointer, WritesIn}
 use Rattle.czi_machine.specs.Written.{Piece, IsClear, Puts, Wrote}
 use Rattle.czi_machine.proofs.Clear.{HeaderAt, AreOnce, header_at_front, header_clear}
 use Rattle.czi_machine.proofs.Cover.{between_low, between_high}
@@ -56,13 +56,13 @@ pointer_read segment image other pieces place (to (Some x)) old wrote fits fits'
     i64_of_bytes other place (pos (segment x).at) (record { sfits = omega (arith, puts.2) }) (put_bytes image other pieces place (i64_bytes (pos (segment x).at)) wrote puts.0 fits' off)
 
 -- the file header afterwards
-pub header_turned : (image other : List ℕ) (live : Live) (t : Turn) (before after : List Span) (pieces : List Piece) → Reaches image live → WritesAround t before after pieces → AreOnce live t after
+pub header_turned : (image other : List ℕ) (live : Live) (t : Turn) (marks : List Span) (pieces : List Piece) → Reaches image live → WritesIn t marks pieces → AreOnce live t marks
     → Wrote image other pieces → length image ≤ length other → file_header other ≡ Some (turned t live).header
-header_turned image other live t before after pieces reaches around once wrote longer =
+header_turned image other live t marks pieces reaches around once wrote longer =
     let at : HeaderAt image live.header.segment = header_at_front image live reaches in
     let f = (header_fronts image live.header reaches.header).0 in
     let front : bytes_at image 0 84 ≡ bytes_at other 0 84 =
-    clear_bytes image other pieces 0 84 wrote (header_clear image live t before after pieces 0 84 at around once (omega arith) (λ q low high. omega (arith, between_low 84 100 q high, between_low 104 112 q (omega (arith, high)))))
+    clear_bytes image other pieces 0 84 wrote (header_clear image live t marks pieces 0 84 at around once (omega arith) (λ q low high. omega (arith, between_low 84 100 q high, between_low 104 112 q (omega (arith, high)))))
     (omega (arith, at.large, at.inside)) (omega (arith, at.large, at.inside, longer)) (inl (omega arith)) in
     header_relinked image other live.header _ _ _ reaches.header front (omega (arith, at.inside, longer))
     (pointer_read (λ (d : Directory). d.segment) image other pieces 84 t.directory live.header.directory wrote (omega (arith, at.large, at.inside)) (omega (arith, at.large, at.inside, longer)) (inl (omega arith)) (ap (λ (z : FileHeader). z.directory) f.fields) around.directory)

@@ -16,7 +16,7 @@ use Rattle.czi_machine.specs.Change.{Act, changed, kept, brought, mapped, Settin
 use Rattle.czi_machine.specs.Cover.{between, cover}
 use Rattle.czi_machine.specs.Edit.{after}
 use Rattle.czi_machine.specs.Turn.{Turn, turned, position_of, pointer, kept_segments, effect_of}
-use Rattle.czi_machine.specs.Writes.{PutsPointer, WritesAround, ReadsDirectory, ReadsAttdir, ReadsMetadata, ReadsNew}
+use Rattle.czi_machine.specs.Writes.{PutsPointer, WritesIn, ReadsDirectory, ReadsAttdir, ReadsMetadata, ReadsNew}
 use Rattle.czi_machine.specs.Written.{Piece, Wrote}
 use Rattle.czi_machine.proofs.Changing.{All-kept, All-changed, map-changed}
 use Rattle.czi_machine.proofs.Clear.{AreOnce, all_kept}
@@ -154,10 +154,10 @@ metadata_turned image other (to None) old kept = refl
 metadata_turned image other (to (Some m)) old kept = refl
 
 -- The pointers of the image afterwards reach what the command makes of what they reached.
-pub reaches_turned : (image other : List ℕ) (live : Live) (t : Turn) (before after : List Span) (pieces : List Piece) → Reaches image live → WritesAround t before after pieces → AreOnce live t after
+pub reaches_turned : (image other : List ℕ) (live : Live) (t : Turn) (marks : List Span) (pieces : List Piece) → Reaches image live → WritesIn t marks pieces → AreOnce live t marks
     → Wrote image other pieces → length image ≤ length other → ReadsNew other t live → Reaches other (turned t live)
-reaches_turned image other live t before after pieces reaches around once wrote longer new =
-    let k : Kept image other live t = kept_parts image other live t (all_kept image other live t before after pieces reaches around once wrote longer) in
+reaches_turned image other live t marks pieces reaches around once wrote longer new =
+    let k : Kept image other live t = kept_parts image other live t (all_kept image other live t marks pieces reaches around once wrote longer) in
     let live' : Live = turned t live in
     let tiles : AllByRecursion (λ (x : Tile). subblock_at other x.entry ≡ Some x) (kept t.tiles live.tiles) =
     on_all (λ (x : Tile). subblock_at image x.entry ≡ Some x) (λ (x : Tile). SameExtent image other x.segment) (λ (x : Tile). subblock_at other x.entry ≡ Some x)
@@ -168,7 +168,7 @@ reaches_turned image other live t before after pieces reaches around once wrote 
     (λ x f s. found_same image other attachment_id x.entry.position (att_item x.entry) (λ (z : AttItem). z.segment) x (att_item_own x.entry) s f) (kept t.attachments live.attachments)
     (All-kept (λ (x : AttItem). attachment_at image x.entry ≡ Some x) t.attachments live.attachments (each_found (attachment_at image) (λ (x : AttItem). x.entry) live.attachments reaches.attachments)) k.attachments in
     record {
-      header = header_turned image other live t before after pieces reaches around once wrote longer;
+      header = header_turned image other live t marks pieces reaches around once wrote longer;
       part = reaches.part;
       directory = found_turned image other directory_id directory (λ (d : Directory). d.segment) t.directory live.header.directory live.directory directory_own reaches.directory k.directory
           (directory_new other pieces 84 t.directory live.tiles live'.tiles around.directory new.directory);
@@ -185,10 +185,10 @@ reaches_turned image other live t before after pieces reaches around once wrote 
       disjoint = few_disjoint (map extent (segments live')) (extents_some (segments live')) (λ p. omega (arith, once.once p));
     }
 
-pub document_turned : (image other : List ℕ) (live : Live) (t : Turn) (before after' : List Span) (pieces : List Piece) → Reaches image live → WritesAround t before after' pieces → AreOnce live t after'
+pub document_turned : (image other : List ℕ) (live : Live) (t : Turn) (marks : List Span) (pieces : List Piece) → Reaches image live → WritesIn t marks pieces → AreOnce live t marks
     → Wrote image other pieces → length image ≤ length other → document other (turned t live) ≡ after (effect_of other t) (document image live)
-document_turned image other live t before after' pieces reaches around once wrote longer =
-    let k : Kept image other live t = kept_parts image other live t (all_kept image other live t before after' pieces reaches around once wrote longer) in
+document_turned image other live t marks pieces reaches around once wrote longer =
+    let k : Kept image other live t = kept_parts image other live t (all_kept image other live t marks pieces reaches around once wrote longer) in
     let subblocks : map (subblock_of other) (changed t.tiles live.tiles) ≡ changed (mapped (subblock_of other) t.tiles) (map (subblock_of image) live.tiles) =
     map-changed (subblock_of image) (subblock_of other) t.tiles live.tiles
     (All-weaken (λ (x : Tile). SameExtent image other x.segment) (λ (x : Tile). subblock_of image x ≡ subblock_of other x) (λ x s. let d = data_same image other x.segment s in cc (d)) (kept t.tiles live.tiles) k.tiles) in

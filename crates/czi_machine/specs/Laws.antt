@@ -56,10 +56,10 @@ StaysSound = (s s' : State) → IsSound s → Leads s s' → IsSound s'
 abbrev pub Commands : Type 0
 Commands = (image other : List ℕ) (s s' : State) (live : Live) (t : Turn) (pieces : List Piece) → Lies image live s → IsSound s → Leads s s'
     → LiesAt s'.layout (turned t live) → s'.document ≡ after (effect_of other t) s.document
-    → Writes image other t live s'.layout.length s.layout.deleted s'.layout.deleted pieces → Lies other (turned t live) s'
+    → Writes image other t live s.layout s'.layout pieces → Lies other (turned t live) s'
 
 -- The bytes of held spans past their first 32 are kept.
 abbrev pub KeepsHeld : Type 0
 KeepsHeld = (image other : List ℕ) (s s' : State) (live : Live) (t : Turn) (pieces : List Piece) → Lies image live s → IsSound s → Leads s s' → LiesAt s'.layout (turned t live)
-    → Writes image other t live s'.layout.length s.layout.deleted s'.layout.deleted pieces
+    → Writes image other t live s.layout s'.layout pieces
     → AllByRecursion (λ (h : Span). bytes_at other (h.at + 32) (h.len - 32) ≡ bytes_at image (h.at + 32) (h.len - 32)) (held s')

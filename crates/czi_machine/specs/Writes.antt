@@ -1,6 +1,9 @@
 -- What a command writes, and what is then read.
-use Rattle.std.specs.Prelude.{◌≡◌, ◌⊎◌, ℕ, ◌+◌, ◌-◌, ◌≤◌, ◌<◌, ◌^◌, ℤ, List, [], ◌∷◌, ◌++◌, map, length, Option, Some, None, Ok, IsTrue}
+use Rattle.std.specs.Prelude.{◌≡◌, ◌⊎◌, ℕ, ◌+◌, ◌-◌, ◌≤◌, ◌<◌, ◌^◌, ℤ, List, [], ◌∷◌, ◌++◌, map, filter, length, not, Option, Some, None, Ok, IsTrue}
 use Rattle.std.specs.List.{AllByRecursion, list_any}
+use Rattle.czi_format.specs.Layout.{Place, Layout}
+use Rattle.czi_machine.specs.Places.{can_be_used, live_places}
+use Rattle.czi_machine.specs.State.{spans_of, not_among}
 use Rattle.czi_format.specs.Bytes.{i64_bytes}
 use Rattle.czi_format.specs.Span.{Span}
 use Rattle.czi_format.specs.Segment.{Segment, extent, header_bytes, deleted_id, in_segment, directory_id, attdir_id, metadata_id}
@@ -30,17 +33,24 @@ PutsPointer segment pieces place (to (Some x)) = Puts pieces place (i64_bytes (p
 abbrev pub PutsDeleted : List Span → List Piece → Span → Type 0
 PutsDeleted before pieces e = (IsTrue (list_any (same_span e) before) × IsClear pieces e.at (e.at + 32)) ⊎ Puts pieces e.at (header_bytes (deleted_segment e))
 
--- where a command writes: pointers of the file header, what it brings, and headers of DELETED extents
+-- where a command may write: pointers of the file header, what it brings, and headers of some extents
 abbrev pub writable : Turn → List Span → List Span
-writable t deleted = record { at = 84; len = 16 } ∷ record { at = 104; len = 8 } ∷ (map extent (new_segments t) ++ map head deleted)
+writable t marks = record { at = 84; len = 16 } ∷ record { at = 104; len = 8 } ∷ (map extent (new_segments t) ++ map head marks)
 
--- What it writes beside the contents of what it brings.
-pub record WritesAround (t : Turn) (before after : List Span) (pieces : List Piece) : Type 0 where
+-- What it writes into the file header, and that it writes nowhere else but where it may.
+pub record WritesIn (t : Turn) (marks : List Span) (pieces : List Piece) : Type 0 where
   pub directory : PutsPointer (λ (d : Directory). d.segment) pieces 84 t.directory
   pub metadata : PutsPointer (λ (m : MetaItem). m.segment) pieces 92 t.metadata
   pub attdir : PutsPointer (λ (d : Directory). d.segment) pieces 104 t.attdir
-  pub deleted : AllByRecursion (PutsDeleted before pieces) after
-  pub within : (q b : ℕ) → byte_of pieces q ≡ Some b → 1 ≤ cover (writable t after) q
+  pub within : (q b : ℕ) → byte_of pieces q ≡ Some b → 1 ≤ cover (writable t marks) q
+
+-- What was live and is no more, and can't be used again: off the multiples of 32, or where the walk doesn't stand.
+abbrev pub dead : Layout → Layout → List Span
+dead l l' = spans_of (filter (λ (p : Place). not (can_be_used p)) (not_among (spans_of (live_places l')) (live_places l)))
+
+-- the extents with a DELETED header afterwards
+abbrev pub marked : Layout → Layout → List Span
+marked l l' = l'.deleted ++ dead l l'
 
 -- The new directory is read in the image, with the entries of these subblocks; where it stays, so do the subblocks.
 abbrev pub ReadsDirectory : List ℕ → Setting Directory → List Tile → List Tile → Type 0
@@ -69,10 +79,16 @@ pub record ReadsNew (other : List ℕ) (t : Turn) (live : Live) : Type 0 where
   pub attachments : AllByRecursion (λ (x : AttItem). attachment_at other x.entry ≡ Some x) (brought t.attachments)
   pub metadata : ReadsMetadata other t.metadata
 
--- The other image, of this length, is what a command's pieces make of the image.
-pub record Writes (image other : List ℕ) (t : Turn) (live : Live) (n : ℕ) (before after : List Span) (pieces : List Piece) : Type 0 where
+-- What it writes beside the contents of what it brings, between two layouts.
+pub record WritesAround (t : Turn) (l l' : Layout) (pieces : List Piece) : Type 0 where
+  pub inside : WritesIn t (marked l l') pieces
+  pub deleted : AllByRecursion (PutsDeleted l.deleted pieces) l'.deleted
+  pub gone : AllByRecursion (λ (e : Span). Puts pieces e.at (header_bytes (deleted_segment e))) (dead l l')
+
+-- The other image is what a command's pieces make of the image.
+pub record Writes (image other : List ℕ) (t : Turn) (live : Live) (l l' : Layout) (pieces : List Piece) : Type 0 where
   pub wrote : Wrote image other pieces
-  pub long : length other ≡ n
-  pub small : n < 2 ^ 63
-  pub around : WritesAround t before after pieces
+  pub long : length other ≡ l'.length
+  pub small : l'.length < 2 ^ 63
+  pub around : WritesAround t l l' pieces
   pub new : ReadsNew other t live
