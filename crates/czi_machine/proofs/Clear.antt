@@ -15,7 +15,7 @@ use Rattle.czi_format.proofs.Readings.{bind_some, given_some, is_sound, segment_
 use Rattle.czi_machine.specs.Change.{Act, changed, kept, brought, Setting, same, to, set, set_new, set_kept}
 use Rattle.czi_machine.specs.Cover.{between, cover, IsWhole}
 use Rattle.czi_machine.specs.Turn.{Turn, turned, new_segments, kept_segments}
-use Rattle.czi_machine.specs.Writes.{head, writable, WritesIn}
+use Rattle.czi_machine.specs.Writes.{head, IsLong, AreOnce, writable, WritesIn}
 use Rattle.czi_machine.specs.Written.{Piece, byte_of, IsClear, Wrote}
 use Rattle.czi_machine.proofs.Changing.{All-kept, cover-changed}
 use Rattle.czi_machine.proofs.Cover.{between_in, between_low, between_high, cover-append}
@@ -90,15 +90,6 @@ kept_have P live t all =
     (All-both P (map i (kept t.tiles live.tiles)) _ (All-listed P i t.tiles live.tiles two.0)
     (All-both P (option_to_list (option_map d (set_kept t.attdir live.attdir))) _ (All-set P d t.attdir live.attdir th.0)
     (All-both P (map a (kept t.attachments live.attachments)) _ (All-listed P a t.attachments live.attachments four.0) (All-set P m t.metadata live.metadata four.1))))
-
--- a span that has room for a header
-abbrev pub IsLong : Span → Type 0
-IsLong e = 32 ≤ e.len
-
--- What is live afterwards, and some other spans, have no place twice.
-pub record AreOnce (live : Live) (t : Turn) (marks : List Span) : Type 0 where
-  pub once : (p : ℕ) → cover (map extent (segments (turned t live))) p + cover marks p ≤ 1
-  pub long : AllByRecursion IsLong marks
 
 pub heads_within : (es : List Span) (p : ℕ) → AllByRecursion IsLong es → cover (map head es) p ≤ cover es p
 heads_within [] p all = omega arith

@@ -20,9 +20,9 @@ use Rattle.czi_machine.specs.Sound.{all_places, live_spans, IsExact, IsSound}
 use Rattle.czi_machine.specs.State.{State, held, spans_of, not_among}
 use Rattle.czi_machine.specs.Tiled.{IsRising, IsTiled, here, tiled_layout, all_segments}
 use Rattle.czi_machine.specs.Turn.{Turn, turned, new_segments, effect_of, LiesAt}
-use Rattle.czi_machine.specs.Writes.{head, deleted_segment, PutsDeleted, dead, marked, Writes}
+use Rattle.czi_machine.specs.Writes.{head, deleted_segment, IsLong, AreOnce, PutsDeleted, dead, marked, Writes}
 use Rattle.czi_machine.specs.Written.{Piece, byte_of, Puts, IsClear, Wrote}
-use Rattle.czi_machine.proofs.Clear.{HeaderAt, AreOnce, header_at_front, segment_clear, stands_still, IsLong, turned_cover, nothing_written, heads_within}
+use Rattle.czi_machine.proofs.Clear.{HeaderAt, header_at_front, segment_clear, stands_still, turned_cover, nothing_written, heads_within}
 use Rattle.czi_machine.proofs.Cover.{between_in, between_low, between_high, cover-append}
 use Rattle.czi_machine.proofs.Exact.{in_one_covers, usable_places}
 use Rattle.czi_machine.proofs.Keeps.{whole_aligned}

@@ -26,6 +26,6 @@ pub mod NewSegment
 pub mod NewDirectory
 pub mod NewItems
 pub mod Omitted
-pub mod Table
-pub mod TableMore
+pub mod TableSubblocks
+pub mod TableOthers
 pub mod TableUndo

@@ -1,5 +1,5 @@
 -- What is read where pieces were written over a list.
-use Rattle.std.proofs.Common.{◌≡◌, ℕ, zero, suc, ◌+◌, ◌-◌, ◌≤◌, ◌<◌, max, List, [], ◌∷◌, ◌++◌, take, drop, length, get_or, replicate, true, false, ◌&&◌, nat_le, nat_lt, Option, Some, None, refl, ap, sym, ◌∙◌, arith, inl, inr, ◌⊎◌, length-append, Bool, if◌then◌else◌}
+use Rattle.std.proofs.Common.{◌≡◌, ℕ, zero, suc, ◌+◌, ◌-◌, ◌≤◌, ◌<◌, max, List, [], ◌∷◌, ◌++◌, map, take, drop, length, get_or, replicate, true, false, ◌&&◌, nat_le, nat_lt, Option, Some, None, refl, ap, sym, ◌∙◌, arith, inl, inr, ◌⊎◌, length-append, Bool, if◌then◌else◌}
 use Rattle.std.specs.List.{AllByRecursion}
 use Rattle.std.specs.Option.{option_or, unwrap_or}
 use Rattle.std.proofs.lemmas.Bool.{cases_lt, cases_Bool, le-leb, lt-ltb, le-ltb, lt-leb, and_parts, leb-true, ltb-true}
@@ -8,7 +8,10 @@ use Rattle.std.proofs.lemmas.Grind.{same_number_lists}
 use Rattle.std.proofs.Math.Seq.{get_or-append_right}
 use Rattle.czi_format.specs.Bytes.{bytes_at}
 use Rattle.czi_format.specs.Span.{end_of}
-use Rattle.czi_machine.specs.Written.{Piece, piece_span, over, all_over, settled, linked, applied, own_byte, byte_of, Puts, IsClear, Wrote}
+use Rattle.czi_machine.specs.Cover.{between, cover}
+use Rattle.czi_machine.proofs.Cover.{between_in}
+use Rattle.czi_machine.proofs.Tiled.{All-weaken}
+use Rattle.czi_machine.specs.Written.{Piece, piece_span, over, all_over, settled, linked, applied, own_byte, byte_of, Puts, IsClear, Wrote, IsZeros}
 
 get_or-front : (xs ys : List ℕ) (i : ℕ) → i < length xs → get_or (xs ++ ys) i 0 ≡ get_or xs i 0
 get_or-front [] ys i h = absurd (omega arith)
@@ -152,18 +155,18 @@ applied_wrote image writes links n ends long fits q small not =
     ∙ (or_or (byte_of links q) (byte_of writes q) (get_or image q 0)
     ∙ ap (λ o. unwrap_or o (get_or image q 0)) (sym (byte_of-append writes links q))))))
 
--- zeros that are written behind the end are read there already
-pub IsZeros : List ℕ → Piece → Type 0
-IsZeros image p = (length image ≤ p.place) × ((i : ℕ) → get_or p.bytes i 0 ≡ 0)
+pub applied_is : (image : List ℕ) (writes links : List Piece) (n : ℕ) → AllByRecursion (λ p. end_of (piece_span p) ≤ n) links → 101 ≤ n → n ≤ length (all_over image writes)
+    → Wrote image (applied image writes links n) (writes ++ links) × (length (applied image writes links n) ≡ n)
+applied_is image writes links n ends long fits = (applied_wrote image writes links n ends long fits, length-applied image writes links n ends long fits)
 
+-- zeros that are written behind the end are read there already
 zeros_byte : (image : List ℕ) (zs : List Piece) (q : ℕ) → AllByRecursion (IsZeros image) zs → unwrap_or (byte_of zs q) (get_or image q 0) ≡ get_or image q 0
-unfolding IsZeros
 zeros_byte image [] q all = refl
 zeros_byte image (z ∷ zs) q all =
     let own : unwrap_or (own_byte z q) (get_or image q 0) ≡ get_or image q 0 = elim (cases_lt q z.place) [
       | inl h ↦ ap (λ o. unwrap_or o (get_or image q 0)) (own_low z q h)
       | inr h ↦ elim (cases_lt q (z.place + length z.bytes)) [
-        | inl k ↦ ap (λ o. unwrap_or o (get_or image q 0)) (own_in z q h k) ∙ (all.0.1 (q - z.place) ∙ sym (beyond image q (omega (arith, all.0.0, h))))
+        | inl k ↦ ap (λ o. unwrap_or o (get_or image q 0)) (own_in z q h k) ∙ (all.0.zeros (q - z.place) ∙ sym (beyond image q (omega (arith, all.0.behind, h))))
         | inr k ↦ ap (λ o. unwrap_or o (get_or image q 0)) (own_high z q k)
       ]
     ] in
@@ -203,3 +206,39 @@ clear_bytes image other pieces at n wrote clear fits fits' off =
     same_bytes image other at at n fits fits'
     (λ i small. sym (wrote (at + i) (omega (arith, small, fits')) (λ e. elim off [ inl l ↦ omega (arith, l, e, small) | inr r ↦ omega (arith, r, e) ])
     ∙ ap (λ o. unwrap_or o (get_or image (at + i) 0)) (clear (at + i) (omega arith) (omega (arith, small)))))
+
+-- the byte of some piece
+byte_here : (p : Piece) (q : ℕ) (b : ℕ) → own_byte p q ≡ Some b → 1 ≤ between p.place (end_of (piece_span p)) q
+byte_here p q b e = elim (cases_lt q p.place) [
+  | inl h ↦ absurd (let none : None ≡ Some b = sym (own_low p q h) ∙ e in cc (none))
+  | inr h ↦ elim (cases_lt q (p.place + length p.bytes)) [
+    | inl k ↦ omega (arith, between_in p.place (end_of (piece_span p)) q h k)
+    | inr k ↦ absurd (let none : None ≡ Some b = sym (own_high p q k) ∙ e in cc (none))
+  ]
+]
+
+pub put_within : (pieces : List Piece) (q b : ℕ) → byte_of pieces q ≡ Some b → 1 ≤ cover (map piece_span pieces) q
+put_within [] q b e = cc (e)
+put_within (p ∷ ps) q b e = on_rest (byte_of ps q) refl e (λ c there. put_within ps q c there)
+  where
+    on_rest : (o : Option ℕ) → byte_of ps q ≡ o → option_or o (own_byte p q) ≡ Some b → ((c : ℕ) → byte_of ps q ≡ Some c → 1 ≤ cover (map piece_span ps) q) → 1 ≤ cover (map piece_span (p ∷ ps)) q
+    on_rest (Some c) there e' rest = omega (arith, rest c there)
+    on_rest None there e' rest = omega (arith, byte_here p q b e')
+
+none_put : (pieces : List Piece) (q : ℕ) → cover (map piece_span pieces) q ≡ 0 → byte_of pieces q ≡ None
+none_put pieces q none = on_byte (byte_of pieces q) refl
+  where
+    on_byte : (o : Option ℕ) → byte_of pieces q ≡ o → o ≡ None
+    on_byte None e = refl
+    on_byte (Some b) e = absurd (omega (arith, put_within pieces q b e, none))
+
+-- pieces that have no place twice
+pub apart_put : (pieces : List Piece) → ((q : ℕ) → cover (map piece_span pieces) q ≤ 1) → AllByRecursion (λ (p : Piece). Puts pieces p.place p.bytes) pieces
+apart_put [] once = tt
+apart_put (p ∷ ps) once = (
+  λ i small.
+      let here : between p.place (end_of (piece_span p)) (p.place + i) ≡ 1 = between_in p.place (end_of (piece_span p)) (p.place + i) (omega arith) (omega (arith, small)) in
+      let none : byte_of ps (p.place + i) ≡ None = none_put ps (p.place + i) (omega (arith, here, once (p.place + i))) in
+      ap (λ o. option_or o (own_byte p (p.place + i))) none ∙ (own_in p (p.place + i) (omega arith) (omega (arith, small)) ∙ ap (λ k. Some (get_or p.bytes k 0)) (omega arith)),
+  All-weaken (λ (r : Piece). Puts ps r.place r.bytes) (λ (r : Piece). Puts (p ∷ ps) r.place r.bytes) (λ r puts i small. ap (λ o. option_or o (own_byte p (r.place + i))) (puts i small)) ps (apart_put ps (λ q. omega (arith, once q))),
+)

@@ -10,9 +10,9 @@ use Rattle.czi_format.proofs.Local.{i32_same, i64_same, same_part, header_is, he
 use Rattle.czi_format.proofs.Readings.{IsHeader, header_is_read, read_header_is}
 use Rattle.czi_machine.specs.Change.{Setting, same, to}
 use Rattle.czi_machine.specs.Turn.{Turn, turned, position_of, pointer}
-use Rattle.czi_machine.specs.Writes.{PutsPointer, WritesIn}
+use Rattle.czi_machine.specs.Writes.{PutsPointer, AreOnce, WritesIn}
 use Rattle.czi_machine.specs.Written.{Piece, IsClear, Puts, Wrote}
-use Rattle.czi_machine.proofs.Clear.{HeaderAt, AreOnce, header_at_front, header_clear}
+use Rattle.czi_machine.proofs.Clear.{HeaderAt, header_at_front, header_clear}
 use Rattle.czi_machine.proofs.Cover.{between_low, between_high}
 use Rattle.czi_machine.proofs.Over.{put_bytes, clear_bytes}
 use Rattle.czi_machine.proofs.Restated.{same_front, i64_of_bytes}

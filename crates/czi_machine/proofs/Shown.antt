@@ -16,10 +16,10 @@ use Rattle.czi_machine.specs.Change.{Act, changed, kept, brought, mapped, Settin
 use Rattle.czi_machine.specs.Cover.{between, cover}
 use Rattle.czi_machine.specs.Edit.{after}
 use Rattle.czi_machine.specs.Turn.{Turn, turned, position_of, pointer, kept_segments, effect_of}
-use Rattle.czi_machine.specs.Writes.{PutsPointer, WritesIn, ReadsDirectory, ReadsAttdir, ReadsMetadata, ReadsNew}
+use Rattle.czi_machine.specs.Writes.{PutsPointer, AreOnce, WritesIn, ReadsDirectory, ReadsAttdir, ReadsMetadata, ReadsNew}
 use Rattle.czi_machine.specs.Written.{Piece, Wrote}
 use Rattle.czi_machine.proofs.Changing.{All-kept, All-changed, map-changed}
-use Rattle.czi_machine.proofs.Clear.{AreOnce, all_kept}
+use Rattle.czi_machine.proofs.Clear.{all_kept}
 use Rattle.czi_machine.proofs.Cover.{between_in}
 use Rattle.czi_machine.proofs.Relinked.{header_turned}
 use Rattle.czi_machine.proofs.Steady.{on_all}
@@ -201,3 +201,9 @@ document_turned image other live t marks pieces reaches around once wrote longer
       attachments = attachments i;
       metadata = metadata_turned image other t.metadata live.metadata k.metadata i;
     }
+
+pub any_image : (image other : List ℕ) (live : Live) (t : Turn) (marks : List Span) (pieces : List Piece) → Reaches image live → WritesIn t marks pieces → AreOnce live t marks
+    → Wrote image other pieces → length image ≤ length other → ReadsNew other t live
+    → Reaches other (turned t live) × (document other (turned t live) ≡ after (effect_of other t) (document image live))
+any_image image other live t marks pieces reaches around once wrote longer new =
+    (reaches_turned image other live t marks pieces reaches around once wrote longer new, document_turned image other live t marks pieces reaches around once wrote longer)

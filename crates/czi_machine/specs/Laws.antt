@@ -1,5 +1,5 @@
 -- The laws of steady images and of edits, as statements.
-use Rattle.std.specs.Prelude.{◌≡◌, ◌⊎◌, ℕ, ◌+◌, ◌-◌, List, [], length, filter, Ok}
+use Rattle.std.specs.Prelude.{◌≡◌, ◌⊎◌, ℕ, ◌+◌, ◌-◌, ◌≤◌, List, [], length, filter, Ok}
 use Rattle.std.specs.List.{AllByRecursion}
 use Rattle.czi_format.specs.Document.{Document}
 use Rattle.czi_format.specs.Layout.{Layout, HasLayout, IsSteady, is_free, is_unknown}
@@ -14,8 +14,8 @@ use Rattle.czi_machine.specs.Machine.{after_edit, after_undo}
 use Rattle.czi_machine.specs.Sound.{IsSound}
 use Rattle.czi_machine.specs.State.{State, held}
 use Rattle.czi_machine.specs.Turn.{Turn, turned, effect_of, LiesAt}
-use Rattle.czi_machine.specs.Writes.{Writes}
-use Rattle.czi_machine.specs.Written.{Piece}
+use Rattle.czi_machine.specs.Writes.{WritesIn, AreOnce, ReadsNew, Writes}
+use Rattle.czi_machine.specs.Written.{Piece, Wrote}
 use Rattle.czi_machine.specs.Tiled.{IsTiled, tiled_layout}
 
 -- a steady image is tiled by its live segments and by the DELETED and the unknown segments of its walk
@@ -63,3 +63,10 @@ abbrev pub KeepsHeld : Type 0
 KeepsHeld = (image other : List ℕ) (s s' : State) (live : Live) (t : Turn) (pieces : List Piece) → Lies image live s → IsSound s → Leads s s' → LiesAt s'.layout (turned t live)
     → Writes image other t live s.layout s'.layout pieces
     → AllByRecursion (λ (h : Span). bytes_at other (h.at + 32) (h.len - 32) ≡ bytes_at image (h.at + 32) (h.len - 32)) (held s')
+
+-- Of any image, steady or not: where what is live afterwards, and the extents with a DELETED header, have no place twice,
+-- the image shows what the command makes of the document.
+abbrev pub AnyImage : Type 0
+AnyImage = (image other : List ℕ) (live : Live) (t : Turn) (marks : List Span) (pieces : List Piece) → Reaches image live → WritesIn t marks pieces → AreOnce live t marks
+    → Wrote image other pieces → length image ≤ length other → ReadsNew other t live
+    → Reaches other (turned t live) × (document other (turned t live) ≡ after (effect_of other t) (document image live))

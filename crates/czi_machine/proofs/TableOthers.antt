@@ -10,7 +10,7 @@ use Rattle.czi_machine.specs.Places.{Asked, stays, fresh, Placed, Fitted, fit_ea
 use Rattle.czi_machine.specs.State.{State, items_of}
 use Rattle.czi_machine.specs.Table.{changes, fit_brought, attachments_laid, metadata_laid, AreApart}
 use Rattle.czi_machine.proofs.Omitted.{all_stay_same}
-use Rattle.czi_machine.proofs.Table.{placed_change, each_stays, option_stays, each_brought, change_moves, new_moves, new_never, asked_by, items_leave, directories_leave, nil_right}
+use Rattle.czi_machine.proofs.TableSubblocks.{placed_change, each_stays, option_stays, each_brought, change_moves, new_moves, new_never, asked_by, items_leave, directories_leave, nil_right}
 
 attachments_moved : (s : State) (c : List (Act Attachment)) → changes c (length s.layout.attachments) ≡ true → all_stay s.layout.attachments (changed (mapped (λ x. fresh (attachment_need x)) c) (map stays s.layout.attachments)) ≡ false
 attachments_moved s c ch = change_moves (λ x. fresh (attachment_need x)) c s.layout.attachments (new_never attachment_need) ch
