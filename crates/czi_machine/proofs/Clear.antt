@@ -1,10 +1,10 @@
 -- Where a command writes nothing: into segments that it keeps, and into the file header but for its pointers.
-use Rattle.std.proofs.Common.{◌≡◌, ℕ, ◌+◌, ◌≤◌, ◌<◌, pos, List, [], ◌∷◌, ◌++◌, map, length, true, Option, Some, None, option_map, option_to_list, refl, ap, sym, ◌∙◌, arith, inl, inr, ◌⊎◌, subst}
+use Rattle.std.proofs.Common.{◌≡◌, ℕ, ◌+◌, ◌≤◌, ◌<◌, pos, List, [], ◌∷◌, ◌++◌, map, length, true, Option, Some, None, option_map, option_to_list, refl, ap, sym, ◌∙◌, arith, inl, inr}
 use Rattle.std.specs.List.{AllByRecursion}
 use Rattle.std.proofs.lemmas.Bool.{cases_lt}
 use Rattle.std.proofs.lemmas.List.{map-append}
 use Rattle.czi_format.specs.Bytes.{bytes_at}
-use Rattle.czi_format.specs.Live.{Live, FileHeader, Directory, Tile, AttItem, MetaItem, segments, reached}
+use Rattle.czi_format.specs.Live.{Live, Directory, Tile, AttItem, MetaItem, segments, reached}
 use Rattle.czi_format.specs.Same.{SameExtent}
 use Rattle.czi_format.specs.Segment.{Segment, segment_at, extent, file_id}
 use Rattle.czi_format.specs.Shows.{Reaches}
@@ -13,7 +13,7 @@ use Rattle.czi_format.specs.Walk.{stands_at, is_name}
 use Rattle.czi_format.proofs.Local.{All-append, header_is}
 use Rattle.czi_format.proofs.Readings.{bind_some, given_some, is_sound, segment_stands}
 use Rattle.czi_machine.specs.Change.{Act, changed, kept, brought, Setting, same, to, set, set_new, set_kept}
-use Rattle.czi_machine.specs.Cover.{between, cover, IsWhole}
+use Rattle.czi_machine.specs.Cover.{between, cover}
 use Rattle.czi_machine.specs.Turn.{Turn, turned, new_segments, kept_segments}
 use Rattle.czi_machine.specs.Writes.{head, IsLong, AreOnce, writable, WritesIn}
 use Rattle.czi_machine.specs.Written.{Piece, byte_of, IsClear, Wrote}
@@ -24,7 +24,7 @@ use Rattle.czi_machine.proofs.Outside.{places_among}
 use Rattle.czi_machine.proofs.Over.{clear_bytes}
 use Rattle.czi_machine.proofs.Restated.{stands_inside, stands_same_header}
 use Rattle.czi_machine.proofs.Steady.{on_all}
-use Rattle.czi_machine.proofs.Tiled.{All-both, All-map, map-All, All-weaken, between_one}
+use Rattle.czi_machine.proofs.Tiled.{All-both, All-map, map-All, between_one}
 
 pub map-map : {X Y Z : Type 0} (f : X → Y) (g : Y → Z) (xs : List X) → map g (map f xs) ≡ map (λ x. g (f x)) xs
 map-map f g [] = refl

@@ -1,17 +1,17 @@
 -- A layout that fills the image still does so after what is live has changed.
-use Rattle.std.proofs.Common.{◌≡◌, ℕ, ◌+◌, ◌%◌, ◌≤◌, ◌<◌, List, [], ◌∷◌, ◌++◌, Bool, true, false, ◌&&◌, ◌==◌, nat_lt, Option, Some, None, Ok, option_to_list, refl, ap, sym, ◌∙◌, arith, subst, ◌⊎◌, inl, inr, if◌then◌else◌}
+use Rattle.std.proofs.Common.{◌≡◌, ℕ, ◌+◌, ◌≤◌, ◌<◌, List, [], ◌∷◌, ◌++◌, true, ◌&&◌, ◌==◌, nat_lt, Ok, option_to_list, refl, ap, sym, ◌∙◌, arith, subst, ◌⊎◌, inl, inr, if◌then◌else◌}
 use Rattle.std.specs.List.{AllByRecursion, filter, list_any}
 use Rattle.std.proofs.lemmas.Bool.{cases_lt, lt-ltb, le-ltb, eq-eqb}
 use Rattle.czi_format.specs.Layout.{Place, Layout}
-use Rattle.czi_format.specs.Span.{Span, end_of, round32, is_aligned}
-use Rattle.czi_format.specs.Space.{Space, same_span, without, deleted_after}
+use Rattle.czi_format.specs.Span.{Span, end_of, round32}
+use Rattle.czi_format.specs.Space.{Space, same_span, without}
 use Rattle.czi_format.proofs.Local.{All-append}
 use Rattle.czi_format.proofs.Rules.{on_ok}
-use Rattle.czi_machine.specs.Cover.{between, cover, Chained, IsWhole, LiesInOne}
-use Rattle.czi_machine.specs.Places.{Asked, stays, back, fresh, Next, Placed, Fitted, fit_each, fit_option, placed, laid, relaid, leaving, staying, items_asked, directories_asked, directories, live_places, can_be_used, walk_goes_on, space_of}
-use Rattle.czi_machine.specs.Sound.{all_places, live_spans, IsExact, IsSound}
-use Rattle.czi_machine.specs.State.{Items, State, held, items_of, item_places, item_spans, spans_of, not_among}
-use Rattle.czi_machine.proofs.Asking.{IsGood, Fits, going_back, fits_each, fits_option, fits_both, spans-append, ok_is}
+use Rattle.czi_machine.specs.Cover.{between, cover, IsWhole, LiesInOne}
+use Rattle.czi_machine.specs.Places.{Asked, stays, back, fresh, Next, Placed, fit_each, fit_option, placed, relaid, leaving, staying, items_asked, directories_asked, directories, live_places, can_be_used, walk_goes_on, space_of}
+use Rattle.czi_machine.specs.Sound.{live_spans, IsExact, IsSound}
+use Rattle.czi_machine.specs.State.{State, held, items_of, item_places, item_spans, spans_of, not_among}
+use Rattle.czi_machine.proofs.Asking.{IsGood, going_back, fits_each, fits_option, fits_both, spans-append, ok_is}
 use Rattle.czi_machine.proofs.Cover.{between_in, between_low, between_high, between_two, without_in, without_out, cover-append, cover-deleted_after}
 use Rattle.czi_machine.proofs.Fitting.{IsSpace, Uses, uses_both}
 use Rattle.czi_machine.proofs.Keeps.{whole_aligned, without_whole, deleted_after_whole, deleted_after_chained}
@@ -306,9 +306,12 @@ relaid_exact s n pl is nx at =
     ] in
     record {
       once = once;
-      live_whole = (is.layout.live_whole.0, map-All (λ (p : Place). p.span) IsWhole (live_places l')
-          (parts_live (λ (p : Place). IsWhole p.span) l' (All-map (λ (p : Place). p.span) IsWhole (item_places pl.items) at.items_whole)
-          (All-map (λ (p : Place). p.span) IsWhole (directories l') at.directories_whole)));
+      live_whole = (
+        is.layout.live_whole.0,
+        map-All (λ (p : Place). p.span) IsWhole (live_places l')
+            (parts_live (λ (p : Place). IsWhole p.span) l' (All-map (λ (p : Place). p.span) IsWhole (item_places pl.items) at.items_whole)
+            (All-map (λ (p : Place). p.span) IsWhole (directories l') at.directories_whole)),
+      );
       deleted_whole = deleted_after_whole pl.used F D at.used_whole freed_whole is.layout.deleted_whole;
       unknown_whole = is.layout.unknown_whole;
       walked = (is.layout.walked.0, parts_live (λ (p : Place). p.walked ≡ true) l' at.items_walked at.directories_walked);

@@ -139,4 +139,3 @@ pub fit_uses : (s : Space) (need : ℕ) (f : Fit) → IsSpace s → need % 32 �
 fit_uses s need f is even some e =
     on_ok (place_for s need) _ f e λ at there more.
     subst (λ (z : Fit). Uses s z.space (z.span ∷ [])) (same_fit (record { span = record { at = at; len = need }; space = use_span s (record { at = at; len = need }) }) f _ refl more) (placed s need at is even some there)
-

@@ -1,17 +1,15 @@
 -- To which state a command leads: what was placed, and that the state is sound.
-use Rattle.std.proofs.Common.{◌≡◌, ℕ, ◌≤◌, List, [], ◌∷◌, map, Result, Ok, Err, refl, ap, sym, ◌∙◌, arith, subst, ◌⊎◌, inl, inr}
+use Rattle.std.proofs.Common.{◌≡◌, ℕ, ◌≤◌, List, [], ◌∷◌, Result, Ok, Err, refl, ap, ◌∙◌, arith, subst, inl, inr}
 use Rattle.czi_format.specs.FirstFault.{with_fault}
-use Rattle.czi_format.specs.Layout.{Layout}
-use Rattle.czi_format.specs.Space.{Full}
 use Rattle.czi_format.proofs.Rules.{on_ok}
 use Rattle.czi_machine.specs.Cover.{cover}
-use Rattle.czi_machine.specs.Edit.{Edit, DocumentEffect, Refusal, effect, after}
+use Rattle.czi_machine.specs.Edit.{Edit, effect, after}
 use Rattle.czi_machine.specs.Laws.{Leads}
 use Rattle.czi_machine.specs.Machine.{after_edit, after_undo, after_undo_of, as_refusal, edited, restored}
 use Rattle.czi_machine.specs.Places.{Next, Placed, edit_next, undo_next, placed, laid, relaid, space_of}
 use Rattle.czi_machine.specs.Sound.{IsSound}
 use Rattle.czi_machine.specs.State.{Former, State, held}
-use Rattle.czi_machine.proofs.Exact.{IsNext, Placing, placing}
+use Rattle.czi_machine.proofs.Exact.{Placing, placing}
 use Rattle.czi_machine.proofs.Sound.{edit_is_next, undo_is_next}
 use Rattle.czi_machine.proofs.Steps.{sound_edited, sound_restored, held_edited, held_restored}
 

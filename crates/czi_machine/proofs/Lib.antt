@@ -1,5 +1,6 @@
 pub mod Restated
 pub mod TileImage
+pub mod RemovedBytes
 pub mod Scripts
 pub mod Cover
 pub mod Tiled

@@ -1,14 +1,14 @@
 -- What leaves is what a change leaves out.
-use Rattle.std.proofs.Common.{◌≡◌, ℕ, suc, ◌+◌, ◌≤◌, ◌<◌, List, [], ◌∷◌, ◌++◌, map, length, Bool, true, false, not, ◌&&◌, Option, Some, None, option_map, option_to_list, refl, ap, sym, ◌∙◌, arith, inl, inr, if◌then◌else◌}
+use Rattle.std.proofs.Common.{◌≡◌, ℕ, suc, ◌+◌, ◌≤◌, ◌<◌, List, [], ◌∷◌, ◌++◌, map, length, Bool, true, false, not, Option, Some, None, option_map, option_to_list, refl, ap, ◌∙◌, arith, if◌then◌else◌}
 use Rattle.std.specs.List.{AllByRecursion, filter, list_any}
-use Rattle.std.proofs.lemmas.Bool.{cases_Bool, and_parts}
+use Rattle.std.proofs.lemmas.Bool.{and_parts}
 use Rattle.std.proofs.lemmas.List.Elements.{filter-append}
-use Rattle.czi_format.specs.Layout.{Place, Layout}
+use Rattle.czi_format.specs.Layout.{Place}
 use Rattle.czi_format.specs.Span.{Span, end_of}
 use Rattle.czi_format.specs.Space.{same_span}
-use Rattle.czi_machine.specs.Change.{Act, keep, omit, bring, changed, brought, kept, omitted, mapped, Setting, same, to, set, set_kept, set_omitted, mapped_setting}
+use Rattle.czi_machine.specs.Change.{Act, keep, omit, bring, changed, kept, omitted, mapped, Setting, same, to, set, set_kept, set_omitted, mapped_setting}
 use Rattle.czi_machine.specs.Cover.{between, cover}
-use Rattle.czi_machine.specs.Places.{Asked, stays, back, fresh, staying, stays_at, all_stay, directory_asked}
+use Rattle.czi_machine.specs.Places.{Asked, stays, back, fresh, staying, all_stay, directory_asked}
 use Rattle.czi_machine.specs.State.{spans_of, not_among}
 use Rattle.czi_machine.proofs.Asking.{spans-append}
 use Rattle.czi_machine.proofs.Cover.{cover-append}

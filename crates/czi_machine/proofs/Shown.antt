@@ -1,21 +1,19 @@
 -- What an image shows into which a command was written. Nothing is said of its walk, nor asked of the walk of the image
 -- before.
-use Rattle.std.proofs.Common.{◌≡◌, ℕ, zero, suc, ◌+◌, ◌≤◌, ◌<◌, ◌^◌, max, min, ℤ, pos, List, [], ◌∷◌, ◌++◌, map, length, false, Option, Some, None, Ok, option_map, option_to_list, refl, ap, sym, ◌∙◌, arith, inl, inr, subst}
+use Rattle.std.proofs.Common.{◌≡◌, ℕ, zero, suc, ◌+◌, ◌≤◌, ◌<◌, ◌^◌, max, min, ℤ, pos, List, [], ◌∷◌, map, length, false, Option, Some, None, Ok, option_map, option_to_list, refl, ap, sym, ◌∙◌, arith, inl, inr}
 use Rattle.std.specs.List.{AllByRecursion}
 use Rattle.std.proofs.lemmas.Bool.{le-ltb, cases_lt}
-use Rattle.czi_format.specs.Document.{Subblock, Attachment, Metadata}
-use Rattle.czi_format.specs.Entry.{Entry, A1}
-use Rattle.czi_format.specs.Live.{Live, FileHeader, Directory, directory, attachment_directory, Tile, tile, AttItem, att_item, MetaItem, meta_item, segments, document, subblock_of, attachment_of, metadata_of}
+use Rattle.czi_format.specs.Live.{Live, Directory, directory, attachment_directory, Tile, tile, AttItem, att_item, MetaItem, meta_item, segments, document, subblock_of, attachment_of, metadata_of}
 use Rattle.czi_format.specs.Partial.{none_or}
 use Rattle.czi_format.specs.Same.{SameExtent}
 use Rattle.czi_format.specs.Segment.{Segment, extent, in_segment, directory_id, subblock_id, attdir_id, attachment_id, metadata_id}
-use Rattle.czi_format.specs.Shows.{Reaches, Shows, count_of, entries, a1_entries, subblock_at, attachment_at}
+use Rattle.czi_format.specs.Shows.{Reaches, count_of, entries, a1_entries, subblock_at, attachment_at}
 use Rattle.czi_format.specs.Span.{Span, end_of, meets, AreDisjoint}
 use Rattle.czi_format.proofs.Local.{All-append, IsItsOwn, option_same, found_same, entries_same, a1_entries_same, metadata_same, data_same, tile_own, att_item_own, meta_item_own, directory_own, attdir_own}
-use Rattle.czi_machine.specs.Change.{Act, changed, kept, brought, mapped, Setting, same, to, set, set_new, set_kept, mapped_setting}
+use Rattle.czi_machine.specs.Change.{changed, kept, mapped, Setting, same, to, set, set_kept, mapped_setting}
 use Rattle.czi_machine.specs.Cover.{between, cover}
 use Rattle.czi_machine.specs.Edit.{after}
-use Rattle.czi_machine.specs.Turn.{Turn, turned, position_of, pointer, kept_segments, effect_of}
+use Rattle.czi_machine.specs.Turn.{Turn, turned, pointer, kept_segments, effect_of}
 use Rattle.czi_machine.specs.Writes.{PutsPointer, AreOnce, WritesIn, ReadsDirectory, ReadsAttdir, ReadsMetadata, ReadsNew}
 use Rattle.czi_machine.specs.Written.{Piece, Wrote}
 use Rattle.czi_machine.proofs.Changing.{All-kept, All-changed, map-changed}

@@ -1,25 +1,24 @@
 -- A sound state stays sound: after an edit, and after an undo.
-use Rattle.std.proofs.Common.{◌≡◌, ℕ, zero, suc, ◌+◌, ◌%◌, ◌≤◌, ◌<◌, List, [], ◌∷◌, ◌++◌, map, take, Bool, true, false, not, Option, Some, None, Result, Ok, option_map, option_to_list, refl, ap, sym, ◌∙◌, arith, subst, inl, inr, if◌then◌else◌}
-use Rattle.std.specs.List.{AllByRecursion, filter, list_any}
-use Rattle.std.proofs.lemmas.Bool.{cases_lt, cases_Bool}
+use Rattle.std.proofs.Common.{◌≡◌, ℕ, ◌+◌, ◌%◌, ◌≤◌, ◌<◌, List, [], ◌∷◌, ◌++◌, map, Bool, true, false, Option, Some, None, option_map, option_to_list, refl, ap, sym, ◌∙◌, arith, subst, inl, inr}
+use Rattle.std.specs.List.{AllByRecursion, list_any}
+use Rattle.std.proofs.lemmas.Bool.{cases_Bool}
 use Rattle.std.proofs.lemmas.List.{map-append}
-use Rattle.czi_format.specs.Document.{Document, Subblock, Attachment, Metadata}
+use Rattle.czi_format.specs.Document.{Document}
 use Rattle.czi_format.specs.Layout.{Place, Layout}
-use Rattle.czi_format.specs.Span.{Span, end_of}
-use Rattle.czi_format.specs.Space.{same_span, deleted_after}
+use Rattle.czi_format.specs.Span.{Span}
+use Rattle.czi_format.specs.Space.{same_span}
 use Rattle.czi_format.proofs.Local.{All-append}
-use Rattle.czi_machine.specs.Change.{Act, keep, omit, bring, changed, kept, brought, mapped, Setting, same, to, set, mapped_setting}
-use Rattle.czi_machine.specs.Cover.{between, cover, IsWhole, LiesInOne}
+use Rattle.czi_machine.specs.Change.{Act, keep, omit, bring, changed, mapped, Setting, same, to, set, mapped_setting}
+use Rattle.czi_machine.specs.Cover.{cover, IsWhole}
 use Rattle.czi_machine.specs.Edit.{DocumentEffect, after}
-use Rattle.czi_machine.specs.Places.{Asked, stays, back, fresh, Next, Placed, next, edit_next, undo_next, stays_or_back, all_stay, directory_asked, subblock_need, attachment_need, metadata_need, directory_need, attdir_need, segment_need, placed, laid, relaid, leaving, staying, items_asked, directories_asked, directories, live_places, space_of}
+use Rattle.czi_machine.specs.Places.{Asked, stays, fresh, next, edit_next, undo_next, stays_or_back, all_stay, directory_asked, subblock_need, attachment_need, metadata_need, directory_need, attdir_need, segment_need, staying, items_asked, directories, live_places}
 use Rattle.czi_machine.specs.Sound.{IsExact, AreItems, IsSound}
 use Rattle.czi_machine.specs.State.{Items, Former, State, held, held_by, items_of, item_places, item_spans, spans_of, not_among}
 use Rattle.czi_machine.proofs.Asking.{IsGood, going_back, staying-append, going_back-append, All-staying, spans-append}
-use Rattle.czi_machine.proofs.Changing.{All-kept, All-changed}
 use Rattle.czi_machine.proofs.Cover.{cover-append}
-use Rattle.czi_machine.proofs.Exact.{IsNext, Placing, placing, relaid_exact, few_items, few_exact, live_parts, cover-live_places}
-use Rattle.czi_machine.proofs.Leaving.{among_themselves, among_before, among_behind}
-use Rattle.czi_machine.proofs.Tiled.{All-both, All-map, map-All, All-weaken}
+use Rattle.czi_machine.proofs.Exact.{IsNext, few_items, live_parts}
+use Rattle.czi_machine.proofs.Leaving.{among_themselves}
+use Rattle.czi_machine.proofs.Tiled.{All-both, All-map}
 
 -- What is known of some of what is live next: those that stay are among some places.
 record Keeping (asked : List Asked) (places : List Place) (spans : List Span) : Type 0 where

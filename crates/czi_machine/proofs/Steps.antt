@@ -1,18 +1,18 @@
 -- A sound state stays sound: after an edit, and after an undo.
-use Rattle.std.proofs.Common.{◌≡◌, ℕ, zero, suc, ◌+◌, ◌≤◌, ◌<◌, List, [], ◌∷◌, ◌++◌, map, take, Bool, true, false, not, Option, Some, None, Result, Ok, option_map, option_to_list, refl, ap, sym, ◌∙◌, arith, subst, inl, inr}
+use Rattle.std.proofs.Common.{◌≡◌, ℕ, zero, suc, ◌+◌, ◌≤◌, List, [], ◌∷◌, ◌++◌, map, take, true, not, Option, Some, None, Ok, option_map, ap, sym, ◌∙◌, arith, subst, inl, inr}
 use Rattle.std.specs.List.{AllByRecursion, filter, list_any}
-use Rattle.std.proofs.lemmas.Bool.{cases_lt, cases_Bool}
+use Rattle.std.proofs.lemmas.Bool.{cases_Bool}
 use Rattle.czi_format.specs.Document.{Document}
 use Rattle.czi_format.specs.Layout.{Place, Layout}
 use Rattle.czi_format.specs.Span.{Span, end_of}
-use Rattle.czi_format.specs.Space.{Space, Full, same_span, deleted_after}
+use Rattle.czi_format.specs.Space.{Space, same_span}
 use Rattle.czi_format.proofs.Local.{All-append}
 use Rattle.czi_format.proofs.Rules.{on_ok}
 use Rattle.czi_machine.specs.Cover.{between, cover, IsWhole, LiesInOne}
 use Rattle.czi_machine.specs.Edit.{DocumentEffect}
 use Rattle.czi_machine.specs.Machine.{edited, restored}
-use Rattle.czi_machine.specs.Places.{Asked, Next, Placed, Fitted, fit_one, fit_each, fit_option, edit_next, undo_next, stays_or_back, placed, laid, relaid, leaving, staying, items_asked, directories_asked, directories, live_places, can_be_used, space_of}
-use Rattle.czi_machine.specs.Sound.{live_spans, IsExact, AreItems, IsSound}
+use Rattle.czi_machine.specs.Places.{Next, Placed, Fitted, fit_one, fit_each, fit_option, edit_next, undo_next, stays_or_back, placed, relaid, leaving, staying, items_asked, directories_asked, directories, live_places, can_be_used, space_of}
+use Rattle.czi_machine.specs.Sound.{IsExact, AreItems, IsSound}
 use Rattle.czi_machine.specs.State.{Items, Former, State, held, held_by, items_of, item_places, item_spans, spans_of, not_among}
 use Rattle.czi_machine.proofs.Asking.{going_back, spans-append, ok_is}
 use Rattle.czi_machine.proofs.Cover.{cover-append}

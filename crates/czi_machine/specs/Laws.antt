@@ -31,7 +31,6 @@ TiledIsSteady = (image : List ℕ) (live : Live) (deleted unknown : List Segment
 abbrev pub HolesAreFree : Type 0
 HolesAreFree = (a b : List ℕ) (l : Layout) (held : List Span) (d : Document) → IsSteady a → HasLayout a l → SameOutside a b (holes held l.deleted) → Shows a d → Shows b d × HasLayout b l × IsSteady b
 
-
 -- A state lies in a steady image.
 pub record Lies (image : List ℕ) (live : Live) (s : State) : Type 0 where
   pub reaches : Reaches image live

@@ -1,5 +1,5 @@
 -- What each command needs, in order, what it uses and what it frees: a table that the machine keeps to.
-use Rattle.std.specs.Prelude.{◌≡◌, ℕ, zero, suc, ◌≤◌, ◌<◌, List, [], ◌∷◌, ◌++◌, length, Bool, true, false, Option, Some, None, option_to_list, Result, Ok, IsTrue, IsFalse}
+use Rattle.std.specs.Prelude.{◌≡◌, ℕ, zero, suc, ◌≤◌, ◌<◌, List, [], ◌∷◌, ◌++◌, length, Bool, true, false, Option, Some, option_to_list, Result, Ok, IsTrue, IsFalse}
 use Rattle.std.specs.List.{AllByRecursion, list_any}
 use Rattle.czi_format.specs.Document.{Document, Subblock, Attachment, Metadata}
 use Rattle.czi_format.specs.FirstFault.{◌>>=◌}
