@@ -42,7 +42,7 @@ any_or : (b : Bool) → (b || true) ≡ true
 any_or true = refl
 any_or false = refl
 
-or_true : (l : Layout) (n : ℕ) → walk_goes_on l ≡ true → (nat_lt n l.length || walk_goes_on l) ≡ true
+pub or_true : (l : Layout) (n : ℕ) → walk_goes_on l ≡ true → (nat_lt n l.length || walk_goes_on l) ≡ true
 or_true l n goes = rw goes (any_or (nat_lt n l.length))
 
 pub fits_one : (l : Layout) (space : Space) (a : Asked) (f : Fitted Place) → walk_goes_on l ≡ true → IsSpace space → IsGood a → fit_one l space a ≡ Ok f

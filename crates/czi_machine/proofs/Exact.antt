@@ -81,7 +81,7 @@ pub record Placing (s : State) (n : Next) (pl : Placed) : Type 0 where
   pub directories_walked : AllByRecursion (λ (q : Place). q.walked ≡ true) (option_to_list pl.directory ++ option_to_list pl.attdir)
   pub items_there : AllByRecursion (λ t. list_any (same_span t) (item_spans pl.items) ≡ true) (staying (items_asked n))
 
-goes_on : (l : Layout) → IsExact l → walk_goes_on l ≡ true
+pub goes_on : (l : Layout) → IsExact l → walk_goes_on l ≡ true
 goes_on l is = ap (λ z. round32 z == round32 l.length) is.walk_end ∙ eq-eqb (round32 l.length) (round32 l.length) refl
 
 -- what is behind the end is neither DELETED nor live

@@ -30,3 +30,4 @@ pub mod Omitted
 pub mod TableSubblocks
 pub mod TableOthers
 pub mod TableUndo
+pub mod Removal

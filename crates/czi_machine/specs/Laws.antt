@@ -1,18 +1,22 @@
 -- The laws of steady images and of edits, as statements.
-use Rattle.std.specs.Prelude.{◌≡◌, ◌⊎◌, ℕ, ◌+◌, ◌-◌, ◌≤◌, List, [], length, filter, Ok}
+use Rattle.std.specs.Prelude.{◌≡◌, ◌⊎◌, ℕ, ◌+◌, ◌-◌, ◌≤◌, List, [], ◌∷◌, length, filter, Ok}
 use Rattle.std.specs.List.{AllByRecursion}
 use Rattle.czi_format.specs.Document.{Document}
 use Rattle.czi_format.specs.Layout.{Layout, HasLayout, IsSteady, is_free, is_unknown}
-use Rattle.czi_format.specs.Live.{Live, segments, document}
+use Rattle.czi_format.specs.Live.{Live, Directory, Tile, segments, document, subblock_of}
 use Rattle.czi_format.specs.Segment.{Segment}
 use Rattle.czi_format.specs.Shows.{Reaches, Shows}
 use Rattle.czi_format.specs.Span.{Span}
 use Rattle.czi_machine.specs.Holes.{holes, SameOutside}
 use Rattle.czi_format.specs.Bytes.{bytes_at}
-use Rattle.czi_machine.specs.Edit.{Edit, after}
-use Rattle.czi_machine.specs.Machine.{after_edit, after_undo}
+use Rattle.czi_machine.specs.Edit.{Edit, remove, effect, in_subblocks, after}
+use Rattle.czi_format.specs.Entry.{Dim}
+use Rattle.czi_machine.specs.Change.{into, out}
+use Rattle.czi_machine.specs.Machine.{after_edit, after_undo, edited, restored}
+use Rattle.czi_machine.specs.Places.{edit_next, undo_next, laid}
+use Rattle.czi_machine.specs.Removal.{with_directory, PlansRemoval, before_removal, IsHeldTile, PlansReturn}
 use Rattle.czi_machine.specs.Sound.{IsSound}
-use Rattle.czi_machine.specs.State.{State, held}
+use Rattle.czi_machine.specs.State.{Former, State, held}
 use Rattle.czi_machine.specs.Turn.{Turn, turned, effect_of, LiesAt}
 use Rattle.czi_machine.specs.Writes.{WritesIn, AreOnce, ReadsNew, Writes}
 use Rattle.czi_machine.specs.Written.{Piece, Wrote}
@@ -69,3 +73,20 @@ abbrev pub AnyImage : Type 0
 AnyImage = (image other : List ℕ) (live : Live) (t : Turn) (marks : List Span) (pieces : List Piece) → Reaches image live → WritesIn t marks pieces → AreOnce live t marks
     → Wrote image other pieces → length image ≤ length other → ReadsNew other t live
     → Reaches other (turned t live) × (document other (turned t live) ≡ after (effect_of other t) (document image live))
+
+-- After the plan of a removal was written, the image shows the document without the subblock; the machine leads there.
+abbrev pub Removes : Type 0
+Removes = (image other : List ℕ) (s : State) (live : Live) (dims : List Dim) (i : ℕ) (d : Directory) (padding : ℕ) (l' : Layout) (pieces : List Piece) → Lies image live s → IsSound s
+    → effect s.document (remove dims) ≡ Ok (in_subblocks (out i)) → laid s (edit_next s (in_subblocks (out i))) ≡ Ok l' → PlansRemoval s live i d padding l' pieces
+    → Wrote image other pieces → length other ≡ l'.length
+    → (after_edit s (remove dims) ≡ Ok (edited s (after (in_subblocks (out i)) s.document) l'))
+    × Lies other (turned (with_directory d (out i)) live) (edited s (after (in_subblocks (out i)) s.document) l')
+
+-- The same of the undo of a removal: the image shows the former document.
+abbrev pub UndoesRemovals : Type 0
+UndoesRemovals = (image other : List ℕ) (s : State) (live : Live) (formers : List Former) (i : ℕ) (x : Tile) (d : Directory) (padding : ℕ) (l' : Layout) (pieces : List Piece) → Lies image live s → IsSound s
+    → s.formers ≡ before_removal s i x (subblock_of image x) ∷ formers → IsHeldTile image s x
+    → laid s (undo_next s (before_removal s i x (subblock_of image x))) ≡ Ok l' → PlansReturn s live i x (subblock_of image x) d padding l' pieces
+    → Wrote image other pieces → length other ≡ l'.length
+    → (after_undo s ≡ Ok (restored s (before_removal s i x (subblock_of image x)) formers l'))
+    × Lies other (turned (with_directory d (into i x)) live) (restored s (before_removal s i x (subblock_of image x)) formers l')

@@ -16,4 +16,5 @@ pub mod Data
 pub mod Turn
 pub mod Writes
 pub mod Puts
+pub mod Removal
 pub mod Laws
