@@ -31,3 +31,4 @@ pub mod TableSubblocks
 pub mod TableOthers
 pub mod TableUndo
 pub mod Removal
+pub mod Return

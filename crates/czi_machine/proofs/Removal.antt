@@ -57,7 +57,7 @@ brought_out : (X : Type 0) (i : ℕ) → (let c : List (Act X) = out i in brough
 brought_out X zero = refl
 brought_out X (suc i) = brought_out X i
 
-brought_into : {X : Type 0} (i : ℕ) (x : X) → brought (into i x) ≡ x ∷ []
+pub brought_into : {X : Type 0} (i : ℕ) (x : X) → brought (into i x) ≡ x ∷ []
 brought_into zero x = refl
 brought_into (suc i) x = brought_into i x
 
@@ -65,7 +65,7 @@ mapped_out : {X Y : Type 0} (f : X → Y) (i : ℕ) → mapped f (out i) ≡ out
 mapped_out f zero = refl
 mapped_out f (suc i) = ap (λ c. keep ∷ c) (mapped_out f i)
 
-mapped_into : {X Y : Type 0} (f : X → Y) (i : ℕ) (x : X) → mapped f (into i x) ≡ into i (f x)
+pub mapped_into : {X Y : Type 0} (f : X → Y) (i : ℕ) (x : X) → mapped f (into i x) ≡ into i (f x)
 mapped_into f zero x = refl
 mapped_into f (suc i) x = ap (λ c. keep ∷ c) (mapped_into f i x)
 
@@ -92,7 +92,7 @@ all_same [] = tt
 all_same (x ∷ xs) = (refl, all_same xs)
 
 -- Where the live segments lie after a change of the subblocks, with another directory.
-with_directory_lies : (n : ℕ) (s : State) (live : Live) (ds us : List Segment) (d : Directory) (c : List (Act Tile)) (l' : Layout) → s.layout ≡ tiled_layout n live ds us
+pub with_directory_lies : (n : ℕ) (s : State) (live : Live) (ds us : List Segment) (d : Directory) (c : List (Act Tile)) (l' : Layout) → s.layout ≡ tiled_layout n live ds us
     → l'.directory ≡ Some (here d.segment) → l'.attdir ≡ s.layout.attdir → l'.subblocks ≡ changed (mapped (λ (x : Tile). here x.segment) c) s.layout.subblocks
     → l'.attachments ≡ s.layout.attachments → l'.metadata ≡ s.layout.metadata → LiesAt l' (turned (with_directory d c) live)
 with_directory_lies n s live ds us d c l' lay dir attdir subblocks attachments metadata = record {
@@ -104,17 +104,17 @@ with_directory_lies n s live ds us d c l' lay dir attdir subblocks attachments m
 }
 
 -- a new directory lies where its need fits
-directory_here : (l : Layout) (d : Directory) (at need : ℕ) → IsExact l → at ≡ d.segment.at → 32 + d.segment.allocated ≡ need → new_place l (record { at = at; len = need }) ≡ here d.segment
+pub directory_here : (l : Layout) (d : Directory) (at need : ℕ) → IsExact l → at ≡ d.segment.at → 32 + d.segment.allocated ≡ need → new_place l (record { at = at; len = need }) ≡ here d.segment
 directory_here l d at need is there long =
     λ i. record { span = record { at = there i; len = sym long i }; walked = or_true l (there i) (goes_on l is) i }
 
 -- What is known of a command that writes another directory and changes the subblocks, from where they lie.
-record Lying (image other : List ℕ) (s s' : State) (live : Live) (d : Directory) (c : List (Act Tile)) (pieces : List Piece) : Type 0 where
-  written : Written image other live s s' (with_directory d c) pieces
-  far : (x : Segment) → ((p : ℕ) → between x.at (end_of (extent x)) p ≤ cover (map extent (new_segments (with_directory d c))) p) → 112 ≤ x.at
-  inside : (x : Segment) → ((p : ℕ) → between x.at (end_of (extent x)) p ≤ cover (map extent (new_segments (with_directory d c))) p) → end_of (extent x) ≤ s'.layout.length
+pub record Lying (image other : List ℕ) (s s' : State) (live : Live) (d : Directory) (c : List (Act Tile)) (pieces : List Piece) : Type 0 where
+  pub written : Written image other live s s' (with_directory d c) pieces
+  pub far : (x : Segment) → ((p : ℕ) → between x.at (end_of (extent x)) p ≤ cover (map extent (new_segments (with_directory d c))) p) → 112 ≤ x.at
+  pub inside : (x : Segment) → ((p : ℕ) → between x.at (end_of (extent x)) p ≤ cover (map extent (new_segments (with_directory d c))) p) → end_of (extent x) ≤ s'.layout.length
 
-lying : (image other : List ℕ) (s s' : State) (live : Live) (d : Directory) (c : List (Act Tile)) (pieces : List Piece) → Lies image live s → IsSound s → Leads s s' → LiesAt s'.layout (turned (with_directory d c) live)
+pub lying : (image other : List ℕ) (s s' : State) (live : Live) (d : Directory) (c : List (Act Tile)) (pieces : List Piece) → Lies image live s → IsSound s → Leads s s' → LiesAt s'.layout (turned (with_directory d c) live)
     → Lying image other s s' live d c pieces
 lying image other s s' live d c pieces lies is leads at =
     let t : Turn = with_directory d c in
@@ -153,12 +153,12 @@ directory_long : length directory_id ≡ 16
 unfolding directory_id
 directory_long = refl
 
-subblock_long : length subblock_id ≡ 16
+pub subblock_long : length subblock_id ≡ 16
 unfolding subblock_id
 subblock_long = refl
 
 -- the new directory is read
-reads_directory : (image other : List ℕ) (s : State) (subblocks : List Subblock) (es : List Entry) (d : Directory) (padding : ℕ) (pieces : List Piece) → Wrote image other pieces → PlansDirectory s subblocks es d padding pieces
+pub reads_directory : (image other : List ℕ) (s : State) (subblocks : List Subblock) (es : List Entry) (d : Directory) (padding : ℕ) (pieces : List Piece) → Wrote image other pieces → PlansDirectory s subblocks es d padding pieces
     → 112 ≤ d.segment.at → end_of (extent d.segment) ≤ length other → length other < 2 ^ 63
     → (in_segment other directory_id (pos d.segment.at) directory ≡ Some d) × (entries other (Some d) ≡ Ok es)
 reads_directory image other s subblocks es d padding pieces wrote plan far inside small =
@@ -166,7 +166,7 @@ reads_directory image other s subblocks es d padding pieces wrote plan far insid
     let stands : StandsWith other d.segment (directory_data es padding) = written_stands image other pieces d.segment (directory_data es padding) wrote plan.puts room in
     directory_read other d es padding stands plan.id (omega (arith, plan.need)) plan.count plan.few plan.entries
 
-only : {a b : Layout} → (let r : Result Layout Full = Ok a in r) ≡ Ok b → a ≡ b
+pub only : {a b : Layout} → (let r : Result Layout Full = Ok a in r) ≡ Ok b → a ≡ b
 only e = cc (e)
 
 no_place : (space : Space) (need : ℕ) (full : Full) → place_for space need ≡ Err full → fit space need ≡ Err full
@@ -226,7 +226,7 @@ removal_lies image s live i d padding l' pieces lies is laid_is plan =
     (ap (λ (z : Layout). z.attachments) (sym same))
     (ap (λ (z : Layout). z.metadata) (sym same))
 
-dirs_among : (d : Directory) (c : List (Act Tile)) (p : ℕ) → between d.segment.at (end_of (extent d.segment)) p ≤ cover (map extent (new_segments (with_directory d c))) p
+pub dirs_among : (d : Directory) (c : List (Act Tile)) (p : ℕ) → between d.segment.at (end_of (extent d.segment)) p ≤ cover (map extent (new_segments (with_directory d c))) p
 dirs_among d c p = omega arith
 
 pub removes : (image other : List ℕ) (s : State) (live : Live) (dims : List Dim) (i : ℕ) (d : Directory) (padding : ℕ) (l' : Layout) (pieces : List Piece) → Lies image live s → IsSound s
