@@ -24,7 +24,8 @@ use Rattle.czi_machine.specs.Writes.{head, deleted_segment, IsLong, AreOnce, Put
 use Rattle.czi_machine.specs.Written.{Piece, IsClear, Wrote}
 use Rattle.czi_machine.proofs.Clear.{HeaderAt, header_at_front, segment_clear, stands_still, turned_cover, nothing_written, heads_within}
 use Rattle.czi_machine.proofs.Cover.{between_in, between_high}
-use Rattle.czi_machine.proofs.Exact.{in_one_covers, usable_places}
+use Rattle.czi_machine.proofs.Exact.{sound_tidy, usable_places}
+use Rattle.czi_machine.proofs.Placing.{in_one_covers, covers_own}
 use Rattle.czi_machine.proofs.Keeps.{whole_aligned}
 use Rattle.czi_machine.proofs.Leaving.{same_is}
 use Rattle.czi_machine.proofs.Led.{Led, led}
@@ -34,7 +35,6 @@ use Rattle.czi_machine.proofs.Outside.{places_among}
 use Rattle.czi_machine.proofs.Over.{put_bytes, clear_bytes}
 use Rattle.czi_machine.proofs.Shown.{reaches_turned, document_turned}
 use Rattle.czi_machine.proofs.Steady.{on_all}
-use Rattle.czi_machine.proofs.Steps.{covers_own}
 use Rattle.czi_machine.proofs.Tiled.{All-both, All-map, All-weaken, between_one, parts, tiled, cover-all_segments, chained_rising}
 
 deleted_named : is_name deleted_id ≡ true
@@ -140,9 +140,10 @@ pub record Written (image other : List ℕ) (live : Live) (s s' : State) (t : Tu
 pub was_written : (image other : List ℕ) (s s' : State) (live : Live) (t : Turn) (pieces : List Piece) → Lies image live s → IsSound s → Leads s s' → LiesAt s'.layout (turned t live)
     → Written image other live s s' t pieces
 was_written image other s s' live t pieces lies is leads at =
-    let l : Led s s' = led s s' is leads in
+    let l : Led s s' = led s s' (sound_tidy s is) leads in
+    let sound : IsSound s' = l.sound is in
     let tl : Tiling image live s = tiling image live s lies in
-    let exact : IsExact s'.layout = l.sound.layout in
+    let exact : IsExact s'.layout = sound.layout in
     let header : s'.layout.header ≡ here live.header.segment = ap (λ (z : Layout). z.header) l.layout ∙ ap (λ (z : Layout). z.header) tl.layout in
     let unknown : s'.layout.unknown ≡ map extent tl.unknown = ap (λ (z : Layout). z.unknown) l.layout ∙ ap (λ (z : Layout). z.unknown) tl.layout in
     let spans : live_spans s'.layout ≡ map extent (segments (turned t live)) = λ i. (header i).span ∷ lying_spans s'.layout (turned t live) at i in
@@ -151,7 +152,7 @@ was_written image other s s' live t pieces lies is leads at =
     let marks : marked s.layout s'.layout ≡ s'.layout.deleted = ap (λ z. s'.layout.deleted ++ z) (nothing_dead s.layout s'.layout is.layout) ∙ nil_right s'.layout.deleted in
     record {
       tiles = tl;
-      sound = l.sound;
+      sound = sound;
       total = total;
       marks = marks;
       once = record { once = λ p. omega (arith, total p, between_one 0 s'.layout.length p, ap (λ z. cover z p) marks); long = subst (AllByRecursion IsLong) (sym marks) (whole_long s'.layout.deleted exact.deleted_whole) };

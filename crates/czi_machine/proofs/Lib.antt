@@ -12,9 +12,11 @@ pub mod Fitting
 pub mod Changing
 pub mod Asking
 pub mod Leaving
+pub mod Placing
 pub mod Exact
 pub mod InOne
-pub mod Sound
+pub mod Nexts
+pub mod Tidy
 pub mod Steps
 pub mod Over
 pub mod Clear

@@ -32,7 +32,8 @@ use Rattle.czi_machine.proofs.Changing.{map-changed}
 use Rattle.czi_machine.proofs.Clear.{HeaderAt, header_at_front, turned_cover}
 use Rattle.czi_machine.proofs.Command.{Written, was_written, commanded}
 use Rattle.czi_machine.proofs.Cover.{between_in, between_high}
-use Rattle.czi_machine.proofs.Exact.{goes_on, few_exact, cover-live_places, held_deleted}
+use Rattle.czi_machine.proofs.Exact.{goes_on, few_exact}
+use Rattle.czi_machine.proofs.Placing.{cover-live_places}
 use Rattle.czi_machine.proofs.Leaving.{among_covers, none_among}
 use Rattle.czi_machine.proofs.Lying.{Tiling, tiling}
 use Rattle.czi_machine.proofs.NewDirectory.{directory_read}

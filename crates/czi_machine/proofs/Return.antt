@@ -27,7 +27,8 @@ use Rattle.czi_machine.specs.Writes.{Writes}
 use Rattle.czi_machine.specs.Written.{Piece, Wrote}
 use Rattle.czi_machine.proofs.Command.{commanded}
 use Rattle.czi_machine.proofs.Cover.{between_in}
-use Rattle.czi_machine.proofs.Exact.{few_items, few_exact, held_deleted, cover-live_places, none_behind}
+use Rattle.czi_machine.proofs.Exact.{few_exact, none_behind, sound_tidy, nothing_dead_held}
+use Rattle.czi_machine.proofs.Placing.{held_covered, cover-live_places}
 use Rattle.czi_machine.proofs.Leaving.{among_covers, none_among}
 use Rattle.czi_machine.proofs.Lying.{Tiling, tiling}
 use Rattle.czi_machine.proofs.NewSegment.{held_stands, held_subblock}
@@ -38,7 +39,8 @@ held_new : (image : List ℕ) (s : State) (x : Tile) → IsSound s → IsHeldTil
 held_new image s x is h = (none_among (extent x.segment) (item_spans (items_of s.layout)) (omega arith) (λ p. omega (
   arith,
   among_covers (extent x.segment) (held s) p h.held,
-  held_deleted s p is,
+  held_covered s p (sound_tidy s is),
+  ap (λ z. cover z p) (nothing_dead_held s is.formers),
   few_exact s.layout p is.layout,
   cover-live_places s.layout p,
 )), tt)
@@ -52,7 +54,8 @@ held_inside image s x is h = elim (cases_lt s.layout.length (end_of (extent x.se
         arith,
         among_covers (extent x.segment) (held s) last h.held,
         between_in x.segment.at (end_of (extent x.segment)) last (omega arith) (omega arith),
-        held_deleted s last is,
+        held_covered s last (sound_tidy s is),
+        ap (λ z. cover z last) (nothing_dead_held s is.formers),
         (none_behind s.layout last is.layout (omega (arith, k))).1,
       ))
 ]

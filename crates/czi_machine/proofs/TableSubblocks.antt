@@ -11,7 +11,7 @@ use Rattle.czi_machine.specs.Places.{Asked, stays, fresh, Placed, Fitted, fit_ea
 use Rattle.czi_machine.specs.State.{State, items_of, item_places, spans_of, not_among}
 use Rattle.czi_machine.specs.Table.{changes, fit_brought, subblocks_laid, AreApart}
 use Rattle.czi_machine.proofs.Asking.{spans-append}
-use Rattle.czi_machine.proofs.Exact.{cover-live_places, live_parts}
+use Rattle.czi_machine.proofs.Placing.{cover-live_places, live_parts}
 use Rattle.czi_machine.proofs.Omitted.{parted_list, parted_set, parted_directory, parted_both, not_kept, staying_changed, staying_set, staying_directory, staying-both, all_stay_same, all_stay_length}
 
 abbrev pub FittedItems : Type 0
