@@ -25,6 +25,8 @@ pub mod Shown
 pub mod Led
 pub mod Lying
 pub mod Command
+pub mod AnyCommand
+pub mod Opened
 pub mod NewSegment
 pub mod NewDirectory
 pub mod NewItems

@@ -1,10 +1,10 @@
 -- The laws of steady images and of edits, as statements.
-use Rattle.std.specs.Prelude.{◌≡◌, ◌⊎◌, ℕ, ◌+◌, ◌-◌, ◌≤◌, List, [], ◌∷◌, length, filter, Ok}
+use Rattle.std.specs.Prelude.{◌≡◌, ◌⊎◌, ℕ, ◌+◌, ◌-◌, ◌≤◌, List, [], ◌∷◌, map, length, filter, Ok}
 use Rattle.std.specs.List.{AllByRecursion}
 use Rattle.czi_format.specs.Document.{Document}
 use Rattle.czi_format.specs.Layout.{Layout, HasLayout, IsSteady, is_free, is_unknown}
 use Rattle.czi_format.specs.Live.{Live, Directory, Tile, segments, document, subblock_of}
-use Rattle.czi_format.specs.Segment.{Segment}
+use Rattle.czi_format.specs.Segment.{Segment, extent}
 use Rattle.czi_format.specs.Shows.{Reaches, Shows}
 use Rattle.czi_format.specs.Span.{Span}
 use Rattle.czi_machine.specs.Holes.{holes, SameOutside}
@@ -15,7 +15,7 @@ use Rattle.czi_machine.specs.Change.{into, out}
 use Rattle.czi_machine.specs.Machine.{after_edit, after_undo, edited, restored}
 use Rattle.czi_machine.specs.Places.{edit_next, undo_next, laid}
 use Rattle.czi_machine.specs.Removal.{with_directory, PlansRemoval, before_removal, IsHeldTile, PlansReturn}
-use Rattle.czi_machine.specs.Sound.{IsSound}
+use Rattle.czi_machine.specs.Sound.{live_spans, IsTidy, IsSound}
 use Rattle.czi_machine.specs.State.{Former, State, held}
 use Rattle.czi_machine.specs.Turn.{Turn, turned, effect_of, LiesAt}
 use Rattle.czi_machine.specs.Writes.{WritesIn, AreOnce, ReadsNew, Writes}
@@ -73,6 +73,28 @@ abbrev pub AnyImage : Type 0
 AnyImage = (image other : List ℕ) (live : Live) (t : Turn) (marks : List Span) (pieces : List Piece) → Reaches image live → WritesIn t marks pieces → AreOnce live t marks
     → Wrote image other pieces → length image ≤ length other → ReadsNew other t live
     → Reaches other (turned t live) × (document other (turned t live) ≡ after (effect_of other t) (document image live))
+
+-- A state has the live extents and the length of an image, and its document. Nothing is said of the walk.
+pub record LiesLoosely (image : List ℕ) (live : Live) (s : State) : Type 0 where
+  pub reaches : Reaches image live
+  pub document : s.document ≡ document image live
+  pub extents : live_spans s.layout ≡ map extent (segments live)
+  pub length : s.layout.length ≡ length image
+
+-- the state of an image that shows a document, without formers, is tidy
+abbrev pub OpensTidy : Type 0
+OpensTidy = (image : List ℕ) (s : State) → HasLayout image s.layout → s.formers ≡ [] → IsTidy s
+
+-- and edits and undos keep a state tidy
+abbrev pub StaysTidy : Type 0
+StaysTidy = (s s' : State) → IsTidy s → Leads s s' → IsTidy s'
+
+-- After a command was written into any image, it shows the document of the state to which the command leads, and has that
+-- state's live extents and length.
+abbrev pub AnyCommands : Type 0
+AnyCommands = (image other : List ℕ) (s s' : State) (live : Live) (t : Turn) (pieces : List Piece) → LiesLoosely image live s → IsTidy s → Leads s s'
+    → live_spans s'.layout ≡ map extent (segments (turned t live)) → s'.document ≡ after (effect_of other t) s.document
+    → Writes image other t live s.layout s'.layout pieces → LiesLoosely other (turned t live) s'
 
 -- After the plan of a removal was written, the image shows the document without the subblock; the machine leads there.
 abbrev pub Removes : Type 0
