@@ -61,10 +61,10 @@ held_inside image s x is h = elim (cases_lt s.layout.length (end_of (extent x.se
 ]
 
 return_lies : (image : List ℕ) (s : State) (live : Live) (i : ℕ) (x : Tile) (d : Directory) (padding : ℕ) (l' : Layout) (pieces : List Piece) → Lies image live s → IsSound s → IsHeldTile image s x
-    → laid s (undo_next s (before_removal s i x (subblock_of image x))) ≡ Ok l' → PlansReturn s live i x (subblock_of image x) d padding l' pieces → LiesAt l' (turned (with_directory d (into i x)) live)
+    → laid s (undo_next s (before_removal s i (here x.segment) (subblock_of image x))) ≡ Ok l' → PlansReturn s live i x (subblock_of image x) d padding l' pieces → LiesAt l' (turned (with_directory d (into i x)) live)
 return_lies image s live i x d padding l' pieces lies is h laid_is plan =
     let tl : Tiling image live s = tiling image live s lies in
-    let f : Former = before_removal s i x (subblock_of image x) in
+    let f : Former = before_removal s i (here x.segment) (subblock_of image x) in
     let there = return_laid s f.document i d.segment.at (here x.segment) (apart_exact s.layout is.layout) (held_new image s x is h) plan.directory.place in
     let same : returned_layout s i (here x.segment) f d.segment.at ≡ l' = only (sym there ∙ laid_is) in
     with_directory_lies (length image) s live tl.deleted tl.unknown d (into i x) l' tl.layout
@@ -78,14 +78,14 @@ tile_among : (d : Directory) (i : ℕ) (x : Tile) (p : ℕ) → between x.segmen
 tile_among d i x p = subst (λ (xs : List Tile). between x.segment.at (end_of (extent x.segment)) p ≤ between d.segment.at (end_of (extent d.segment)) p + cover (map extent (map (λ (y : Tile). y.segment) xs ++ [])) p) (sym (brought_into i x)) (omega arith)
 
 pub undoes_removal : (image other : List ℕ) (s : State) (live : Live) (formers : List Former) (i : ℕ) (x : Tile) (d : Directory) (padding : ℕ) (l' : Layout) (pieces : List Piece) → Lies image live s → IsSound s
-    → s.formers ≡ before_removal s i x (subblock_of image x) ∷ formers → IsHeldTile image s x
-    → laid s (undo_next s (before_removal s i x (subblock_of image x))) ≡ Ok l' → PlansReturn s live i x (subblock_of image x) d padding l' pieces
+    → s.formers ≡ before_removal s i (here x.segment) (subblock_of image x) ∷ formers → IsHeldTile image s x
+    → laid s (undo_next s (before_removal s i (here x.segment) (subblock_of image x))) ≡ Ok l' → PlansReturn s live i x (subblock_of image x) d padding l' pieces
     → Wrote image other pieces → length other ≡ l'.length
-    → (after_undo s ≡ Ok (restored s (before_removal s i x (subblock_of image x)) formers l'))
-    × Lies other (turned (with_directory d (into i x)) live) (restored s (before_removal s i x (subblock_of image x)) formers l')
+    → (after_undo s ≡ Ok (restored s (before_removal s i (here x.segment) (subblock_of image x)) formers l'))
+    × Lies other (turned (with_directory d (into i x)) live) (restored s (before_removal s i (here x.segment) (subblock_of image x)) formers l')
 undoes_removal image other s live formers i x d padding l' pieces lies is newest h laid_is plan wrote long =
     let t : Turn = with_directory d (into i x) in
-    let f : Former = before_removal s i x (subblock_of image x) in
+    let f : Former = before_removal s i (here x.segment) (subblock_of image x) in
     let s' : State = restored s f formers l' in
     let goes : after_undo s ≡ Ok s' = ap (after_undo_of s) newest ∙ ap (λ r. with_fault as_refusal r >>= λ l. Ok (restored s f formers l)) laid_is in
     let at : LiesAt l' (turned t live) = return_lies image s live i x d padding l' pieces lies is h laid_is plan in

@@ -2,7 +2,7 @@
 use Rattle.std.specs.Prelude.{◌≡◌, ◌⊎◌, ℕ, ◌+◌, ◌-◌, ◌≤◌, List, [], ◌∷◌, map, length, filter, Ok}
 use Rattle.std.specs.List.{AllByRecursion}
 use Rattle.czi_format.specs.Document.{Document}
-use Rattle.czi_format.specs.Layout.{Layout, HasLayout, IsSteady, is_free, is_unknown}
+use Rattle.czi_format.specs.Layout.{Place, Layout, HasLayout, IsSteady, is_free, is_unknown}
 use Rattle.czi_format.specs.Live.{Live, Directory, Tile, segments, document, subblock_of}
 use Rattle.czi_format.specs.Segment.{Segment, extent}
 use Rattle.czi_format.specs.Shows.{Reaches, Shows}
@@ -15,12 +15,12 @@ use Rattle.czi_machine.specs.Change.{into, out}
 use Rattle.czi_machine.specs.Machine.{after_edit, after_undo, edited, restored}
 use Rattle.czi_machine.specs.Places.{edit_next, undo_next, laid}
 use Rattle.czi_machine.specs.Removal.{with_directory, PlansRemoval, before_removal, IsHeldTile, PlansReturn}
-use Rattle.czi_machine.specs.Sound.{live_spans, IsTidy, IsSound}
+use Rattle.czi_machine.specs.Sound.{IsTidy, IsSound}
 use Rattle.czi_machine.specs.State.{Former, State, held}
-use Rattle.czi_machine.specs.Turn.{Turn, turned, effect_of, LiesAt}
+use Rattle.czi_machine.specs.Turn.{Turn, turned, effect_of, LiesAt, SpansAt}
 use Rattle.czi_machine.specs.Writes.{WritesIn, AreOnce, ReadsNew, Writes}
 use Rattle.czi_machine.specs.Written.{Piece, Wrote}
-use Rattle.czi_machine.specs.Tiled.{IsTiled, tiled_layout}
+use Rattle.czi_machine.specs.Tiled.{IsTiled, here, tiled_layout}
 
 -- a steady image is tiled by its live segments and by the DELETED and the unknown segments of its walk
 abbrev pub SteadyIsTiled : Type 0
@@ -78,7 +78,7 @@ AnyImage = (image other : List ℕ) (live : Live) (t : Turn) (marks : List Span)
 pub record LiesLoosely (image : List ℕ) (live : Live) (s : State) : Type 0 where
   pub reaches : Reaches image live
   pub document : s.document ≡ document image live
-  pub extents : live_spans s.layout ≡ map extent (segments live)
+  pub extents : SpansAt s.layout live
   pub length : s.layout.length ≡ length image
 
 -- the state of an image that shows a document, without formers, is tidy
@@ -93,7 +93,7 @@ StaysTidy = (s s' : State) → IsTidy s → Leads s s' → IsTidy s'
 -- state's live extents and length.
 abbrev pub AnyCommands : Type 0
 AnyCommands = (image other : List ℕ) (s s' : State) (live : Live) (t : Turn) (pieces : List Piece) → LiesLoosely image live s → IsTidy s → Leads s s'
-    → live_spans s'.layout ≡ map extent (segments (turned t live)) → s'.document ≡ after (effect_of other t) s.document
+    → SpansAt s'.layout (turned t live) → s'.document ≡ after (effect_of other t) s.document
     → Writes image other t live s.layout s'.layout pieces → LiesLoosely other (turned t live) s'
 
 -- After the plan of a removal was written, the image shows the document without the subblock; the machine leads there.
@@ -104,11 +104,29 @@ Removes = (image other : List ℕ) (s : State) (live : Live) (dims : List Dim) (
     → (after_edit s (remove dims) ≡ Ok (edited s (after (in_subblocks (out i)) s.document) l'))
     × Lies other (turned (with_directory d (out i)) live) (edited s (after (in_subblocks (out i)) s.document) l')
 
+-- the same of any image
+abbrev pub RemovesAnywhere : Type 0
+RemovesAnywhere = (image other : List ℕ) (s : State) (live : Live) (dims : List Dim) (i : ℕ) (d : Directory) (padding : ℕ) (l' : Layout) (pieces : List Piece) → LiesLoosely image live s → IsTidy s
+    → effect s.document (remove dims) ≡ Ok (in_subblocks (out i)) → laid s (edit_next s (in_subblocks (out i))) ≡ Ok l' → PlansRemoval s live i d padding l' pieces
+    → Wrote image other pieces → length other ≡ l'.length
+    → (after_edit s (remove dims) ≡ Ok (edited s (after (in_subblocks (out i)) s.document) l'))
+    × LiesLoosely other (turned (with_directory d (out i)) live) (edited s (after (in_subblocks (out i)) s.document) l')
+
 -- The same of the undo of a removal: the image shows the former document.
 abbrev pub UndoesRemovals : Type 0
 UndoesRemovals = (image other : List ℕ) (s : State) (live : Live) (formers : List Former) (i : ℕ) (x : Tile) (d : Directory) (padding : ℕ) (l' : Layout) (pieces : List Piece) → Lies image live s → IsSound s
-    → s.formers ≡ before_removal s i x (subblock_of image x) ∷ formers → IsHeldTile image s x
-    → laid s (undo_next s (before_removal s i x (subblock_of image x))) ≡ Ok l' → PlansReturn s live i x (subblock_of image x) d padding l' pieces
+    → s.formers ≡ before_removal s i (here x.segment) (subblock_of image x) ∷ formers → IsHeldTile image s x
+    → laid s (undo_next s (before_removal s i (here x.segment) (subblock_of image x))) ≡ Ok l' → PlansReturn s live i x (subblock_of image x) d padding l' pieces
     → Wrote image other pieces → length other ≡ l'.length
-    → (after_undo s ≡ Ok (restored s (before_removal s i x (subblock_of image x)) formers l'))
-    × Lies other (turned (with_directory d (into i x)) live) (restored s (before_removal s i x (subblock_of image x)) formers l')
+    → (after_undo s ≡ Ok (restored s (before_removal s i (here x.segment) (subblock_of image x)) formers l'))
+    × Lies other (turned (with_directory d (into i x)) live) (restored s (before_removal s i (here x.segment) (subblock_of image x)) formers l')
+
+-- and of any image, wherever the walk stood
+abbrev pub UndoesRemovalsAnywhere : Type 0
+UndoesRemovalsAnywhere = (image other : List ℕ) (s : State) (live : Live) (formers : List Former) (i : ℕ) (p : Place) (x : Tile) (d : Directory) (padding : ℕ) (l' : Layout) (pieces : List Piece)
+    → LiesLoosely image live s → IsTidy s → p.span ≡ extent x.segment
+    → s.formers ≡ before_removal s i p (subblock_of image x) ∷ formers → IsHeldTile image s x
+    → laid s (undo_next s (before_removal s i p (subblock_of image x))) ≡ Ok l' → PlansReturn s live i x (subblock_of image x) d padding l' pieces
+    → Wrote image other pieces → length other ≡ l'.length
+    → (after_undo s ≡ Ok (restored s (before_removal s i p (subblock_of image x)) formers l'))
+    × LiesLoosely other (turned (with_directory d (into i x)) live) (restored s (before_removal s i p (subblock_of image x)) formers l')

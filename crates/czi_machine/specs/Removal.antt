@@ -83,10 +83,10 @@ pub record PlansRemoval (s : State) (live : Live) (i : ℕ) (d : Directory) (pad
   pub small : l'.length < 2 ^ 63
 
 -- the former document before such a removal, and its items
-abbrev pub before_removal : State → ℕ → Tile → Subblock → Former
-before_removal s i x sub = record {
+abbrev pub before_removal : State → ℕ → Place → Subblock → Former
+before_removal s i p sub = record {
   document = record s.document { subblocks = changed (into i sub) s.document.subblocks };
-  items = record (items_of s.layout) { subblocks = changed (into i (here x.segment)) s.layout.subblocks };
+  items = record (items_of s.layout) { subblocks = changed (into i p) s.layout.subblocks };
 }
 
 -- A subblock whose segment is held: its data lies in the image.
