@@ -36,3 +36,4 @@ pub mod TableOthers
 pub mod TableUndo
 pub mod Removal
 pub mod Return
+pub mod Anywhere

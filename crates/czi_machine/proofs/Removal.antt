@@ -54,7 +54,7 @@ changes_into zero n x = refl
 changes_into (suc i) zero x = changes_into i zero x
 changes_into (suc i) (suc n) x = changes_into i n x
 
-brought_out : (X : Type 0) (i : ℕ) → (let c : List (Act X) = out i in brought c) ≡ []
+pub brought_out : (X : Type 0) (i : ℕ) → (let c : List (Act X) = out i in brought c) ≡ []
 brought_out X zero = refl
 brought_out X (suc i) = brought_out X i
 
@@ -62,7 +62,7 @@ pub brought_into : {X : Type 0} (i : ℕ) (x : X) → brought (into i x) ≡ x �
 brought_into zero x = refl
 brought_into (suc i) x = brought_into i x
 
-mapped_out : {X Y : Type 0} (f : X → Y) (i : ℕ) → mapped f (out i) ≡ out i
+pub mapped_out : {X Y : Type 0} (f : X → Y) (i : ℕ) → mapped f (out i) ≡ out i
 mapped_out f zero = refl
 mapped_out f (suc i) = ap (λ c. keep ∷ c) (mapped_out f i)
 
@@ -77,7 +77,7 @@ fit_out l space need (suc i) = rw (fit_out l space need i)
 fit_at : (space : Space) (need at : ℕ) → place_for space need ≡ Ok at → fit space need ≡ Ok (record { span = record { at = at; len = need }; space = use_span space (record { at = at; len = need }) })
 fit_at space need at e = rw e
 
-length-mapped : {X Y : Type 0} (f : X → Y) (xs : List X) → length (map f xs) ≡ length xs
+pub length-mapped : {X Y : Type 0} (f : X → Y) (xs : List X) → length (map f xs) ≡ length xs
 length-mapped f [] = refl
 length-mapped f (x ∷ xs) = ap suc (length-mapped f xs)
 

@@ -74,7 +74,7 @@ return_lies image s live i x d padding l' pieces lies is h laid_is plan =
     (ap (λ (z : Layout). z.attachments) (sym same))
     (ap (λ (z : Layout). z.metadata) (sym same))
 
-tile_among : (d : Directory) (i : ℕ) (x : Tile) (p : ℕ) → between x.segment.at (end_of (extent x.segment)) p ≤ cover (map extent (new_segments (with_directory d (into i x)))) p
+pub tile_among : (d : Directory) (i : ℕ) (x : Tile) (p : ℕ) → between x.segment.at (end_of (extent x.segment)) p ≤ cover (map extent (new_segments (with_directory d (into i x)))) p
 tile_among d i x p = subst (λ (xs : List Tile). between x.segment.at (end_of (extent x.segment)) p ≤ between d.segment.at (end_of (extent d.segment)) p + cover (map extent (map (λ (y : Tile). y.segment) xs ++ [])) p) (sym (brought_into i x)) (omega arith)
 
 pub undoes_removal : (image other : List ℕ) (s : State) (live : Live) (formers : List Former) (i : ℕ) (x : Tile) (d : Directory) (padding : ℕ) (l' : Layout) (pieces : List Piece) → Lies image live s → IsSound s

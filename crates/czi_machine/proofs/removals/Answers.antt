@@ -1,3 +1,4 @@
+use Rattle.czi_machine.proofs.Anywhere.{removes_anywhere, undoes_anywhere}
 use Rattle.czi_machine.proofs.Removal.{removal_laid, removal_full, return_laid, return_full, removes}
 use Rattle.czi_machine.proofs.Return.{undoes_removal}
 use Rattle.czi_machine.proofs.removals.Goals as goal
@@ -19,3 +20,9 @@ returns-clause-return_full c = return_full
 
 pub returns-clause-undoes : goal.returns-clause-undoes
 returns-clause-undoes c = undoes_removal
+
+pub returns-clause-removes_anywhere : goal.returns-clause-removes_anywhere
+returns-clause-removes_anywhere c = removes_anywhere
+
+pub returns-clause-undoes_anywhere : goal.returns-clause-undoes_anywhere
+returns-clause-undoes_anywhere c = undoes_anywhere
