@@ -1,22 +1,22 @@
 -- A removal, and its undo, from their plans, in any image.
-use Rattle.std.proofs.Common.{◌≡◌, ℕ, ◌+◌, ◌-◌, ◌≤◌, ◌<◌, List, [], ◌∷◌, ◌++◌, map, length, true, Option, Some, None, option_map, Result, Ok, Err, refl, ap, sym, ◌∙◌, arith, inl, inr, subst}
+use Rattle.std.proofs.Common.{◌≡◌, ℕ, ◌-◌, ◌≤◌, List, [], ◌∷◌, map, length, Some, Ok, refl, ap, sym, ◌∙◌, arith, inl, inr, subst}
 use Rattle.std.specs.List.{AllByRecursion, list_any}
 use Rattle.std.proofs.lemmas.Bool.{cases_lt}
-use Rattle.czi_format.specs.Document.{Document, Subblock}
+use Rattle.czi_format.specs.Document.{Subblock}
 use Rattle.czi_format.specs.Entry.{Dim}
 use Rattle.czi_format.specs.FirstFault.{◌>>=◌, with_fault}
 use Rattle.czi_format.specs.Layout.{Place, Layout}
-use Rattle.czi_format.specs.Live.{Live, Directory, Tile, AttItem, MetaItem, segments, subblock_of}
-use Rattle.czi_format.specs.Segment.{Segment, extent, data_of, subblock_id}
+use Rattle.czi_format.specs.Live.{Live, Directory, Tile, segments, subblock_of}
+use Rattle.czi_format.specs.Segment.{Segment, extent, data_of}
 use Rattle.czi_format.specs.Shows.{subblock_at}
 use Rattle.czi_format.specs.Space.{same_span}
 use Rattle.czi_format.specs.Span.{Span, end_of}
-use Rattle.czi_machine.specs.Change.{Act, changed, kept, brought, mapped, into, out}
+use Rattle.czi_machine.specs.Change.{Act, changed, kept, mapped, into, out}
 use Rattle.czi_machine.specs.Cover.{between, cover}
 use Rattle.czi_machine.specs.Edit.{remove, effect, in_subblocks, after}
 use Rattle.czi_machine.specs.Laws.{Leads, LiesLoosely}
 use Rattle.czi_machine.specs.Machine.{after_edit, after_undo, after_undo_of, edited, restored, as_refusal}
-use Rattle.czi_machine.specs.Places.{edit_next, undo_next, laid, directory_need, live_places, space_of}
+use Rattle.czi_machine.specs.Places.{edit_next, undo_next, laid, directory_need}
 use Rattle.czi_machine.specs.Puts.{StandsWith, HasRoom}
 use Rattle.czi_machine.specs.Removal.{with_directory, PlansRemoval, before_removal, IsHeldTile, PlansReturn, removal_need, removed_layout, returned_layout}
 use Rattle.czi_machine.specs.Sound.{live_spans, IsTidy}
@@ -140,13 +140,16 @@ removes_anywhere image other s live dims i d padding l' pieces lies is effect_is
 
 -- its undo
 held_new : (image : List ℕ) (s : State) (p : Place) (x : Tile) → IsTidy s → p.span ≡ extent x.segment → IsHeldTile image s x → AreNew s.layout (p ∷ [])
-held_new image s p x is span h = (ap (λ z. list_any (same_span z) (item_spans (items_of s.layout))) span ∙ none_among (extent x.segment) (item_spans (items_of s.layout)) (omega arith) (λ q. omega (
-  arith,
-  among_covers (extent x.segment) (held s) q h.held,
-  held_covered s q is,
-  is.once q,
-  cover-live_places s.layout q,
-)), tt)
+held_new image s p x is span h = (
+  ap (λ z. list_any (same_span z) (item_spans (items_of s.layout))) span ∙ none_among (extent x.segment) (item_spans (items_of s.layout)) (omega arith) (λ q. omega (
+    arith,
+    among_covers (extent x.segment) (held s) q h.held,
+    held_covered s q is,
+    is.once q,
+    cover-live_places s.layout q,
+  )),
+  tt,
+)
 
 held_inside : (image : List ℕ) (s : State) (x : Tile) → IsTidy s → IsHeldTile image s x → end_of (extent x.segment) ≤ s.layout.length
 held_inside image s x is h = elim (cases_lt s.layout.length (end_of (extent x.segment))) [

@@ -261,7 +261,7 @@ commanded image other s s' live t pieces lies is leads at document_is w =
     }
 
 -- the headers of DELETED extents have no place of a span in one of them past its first 32 bytes
-heads_clear : (h : Span) (es : List Span) (q : ℕ) → LiesInOne h es → AllByRecursion IsWhole es → cover es q ≤ 1 → h.at + 32 ≤ q → q < end_of h → cover (map head es) q ≡ 0
+pub heads_clear : (h : Span) (es : List Span) (q : ℕ) → LiesInOne h es → AllByRecursion IsWhole es → cover es q ≤ 1 → h.at + 32 ≤ q → q < end_of h → cover (map head es) q ≡ 0
 heads_clear h [] q none whole few low high = absurd none
 heads_clear h (e ∷ es) q (inl i) whole few low high =
     omega (arith, few, heads_within es q (whole_long es whole.1), between_in e.at (end_of e) q (omega (arith, i.0, low)) (omega (arith, i.1, high)), between_high e.at (e.at + 32) q (omega (arith, i.0, low)))

@@ -1,21 +1,23 @@
 -- To which state a command leads: what was placed, and that the state is tidy, or sound.
-use Rattle.std.proofs.Common.{◌≡◌, ℕ, ◌+◌, ◌≤◌, List, [], ◌∷◌, Result, Ok, Err, refl, ap, ◌∙◌, arith, subst, inl, inr}
+use Rattle.std.proofs.Common.{◌≡◌, ℕ, ◌+◌, ◌≤◌, List, [], ◌∷◌, Result, Ok, Err, refl, ap, ◌∙◌, arith, subst, true, ◌⊎◌, inl, inr}
 use Rattle.czi_format.specs.FirstFault.{with_fault}
-use Rattle.czi_format.specs.Layout.{Layout}
+use Rattle.std.specs.List.{AllByRecursion, list_any}
+use Rattle.czi_format.specs.Space.{same_span}
+use Rattle.czi_format.specs.Span.{Span, end_of}
 use Rattle.czi_format.proofs.Rules.{on_ok}
-use Rattle.czi_machine.specs.Cover.{cover}
+use Rattle.czi_machine.specs.Cover.{between, cover}
 use Rattle.czi_machine.specs.Edit.{Edit, effect, after}
 use Rattle.czi_machine.specs.Laws.{Leads}
 use Rattle.czi_machine.specs.Machine.{after_edit, after_undo, after_undo_of, as_refusal, edited, restored}
-use Rattle.czi_machine.specs.Places.{Next, Placed, edit_next, undo_next, placed, laid, relaid, space_of}
+use Rattle.czi_machine.specs.Places.{Next, Placed, edit_next, undo_next, placed, laid, relaid, live_places, space_of}
 use Rattle.czi_machine.specs.Sound.{live_spans, IsTidy, IsSound}
-use Rattle.czi_machine.specs.State.{Former, State, held}
+use Rattle.czi_machine.specs.State.{Former, State, held, spans_of}
 use Rattle.czi_machine.specs.Writes.{dead}
 use Rattle.czi_machine.proofs.Exact.{sound_tidy}
 use Rattle.czi_machine.proofs.Nexts.{edit_is_next, undo_is_next}
 use Rattle.czi_machine.proofs.Placing.{IsNext, Placing, placing}
 use Rattle.czi_machine.proofs.Steps.{sound_edited, sound_restored}
-use Rattle.czi_machine.proofs.Tidy.{tidy_edited, tidy_restored, held_edited, held_restored, marked_once}
+use Rattle.czi_machine.proofs.Tidy.{tidy_edited, tidy_restored, held_edited, held_restored, edited_from, restored_from, marked_once}
 
 pub record Led (s s' : State) : Type 0 where
   pub next : Next
@@ -24,6 +26,7 @@ pub record Led (s s' : State) : Type 0 where
   pub longer : s.layout.length ≤ s'.layout.length
   pub tidy : IsTidy s'
   pub sound : IsSound s → IsSound s'
+  pub held_from : AllByRecursion (λ (h : Span). (list_any (same_span h) (spans_of (live_places s.layout)) ≡ true) ⊎ ((p : ℕ) → between h.at (end_of h) p ≤ cover (held s) p)) (held s')
   pub held_before : (p : ℕ) → s.layout.length ≤ p → cover (held s') p ≡ 0
   pub marks : (p : ℕ) → cover (live_spans s'.layout) p + (cover s'.layout.deleted p + cover (dead s.layout s'.layout) p) ≤ 1
 
@@ -51,6 +54,7 @@ edit_led s s' c is e =
       longer = omega (arith, at.uses.longer, at.length);
       tidy = tidy_edited s f (after f s.document) pl is pl_is;
       sound = λ sound. sound_edited s f (after f s.document) pl sound pl_is;
+      held_from = edited_from s (after f s.document) (relaid s.layout n pl);
       held_before = λ p h. held_edited s (after f s.document) (relaid s.layout n pl) p is h;
       marks = λ p. marked_once s n pl p is nx at;
     })
@@ -75,6 +79,7 @@ undo_led s s' is e = on_formers s.formers refl e
           longer = omega (arith, at.uses.longer, at.length);
           tidy = tidy_restored s f formers pl is newest pl_is;
           sound = λ sound. sound_restored s f formers pl sound newest pl_is;
+          held_from = restored_from s f formers pl is newest pl_is;
           held_before = λ p h. held_restored s f formers pl p is newest pl_is h;
           marks = λ p. marked_once s n pl p is nx at;
         })

@@ -1,31 +1,31 @@
 -- A removal, and its undo, from its plan.
-use Rattle.std.proofs.Common.{◌≡◌, ℕ, zero, suc, ◌+◌, ◌-◌, ◌*◌, ◌%◌, ◌≤◌, ◌<◌, ◌^◌, pos, List, [], ◌∷◌, ◌++◌, map, length, Bool, true, false, Option, Some, None, Result, Ok, Err, option_map, option_to_list, refl, ap, sym, ◌∙◌, arith, inl, inr, subst}
-use Rattle.std.specs.List.{AllByRecursion, list_any}
-use Rattle.std.proofs.lemmas.Bool.{cases_lt, cases_Bool}
+use Rattle.std.proofs.Common.{◌≡◌, ℕ, zero, suc, ◌+◌, ◌-◌, ◌≤◌, ◌<◌, ◌^◌, pos, List, [], ◌∷◌, map, length, true, Some, Result, Ok, Err, refl, ap, sym, ◌∙◌, arith, inl, inr, subst}
+use Rattle.std.specs.List.{AllByRecursion}
+use Rattle.std.proofs.lemmas.Bool.{cases_lt}
 use Rattle.czi_format.specs.Document.{Document, Subblock}
 use Rattle.czi_format.specs.Entry.{Dim, Entry}
 use Rattle.czi_format.specs.FirstFault.{◌>>=◌, with_fault}
 use Rattle.czi_format.specs.Layout.{Place, Layout}
-use Rattle.czi_format.specs.Live.{Live, Directory, directory, Tile, AttItem, MetaItem, segments, subblock_of}
-use Rattle.czi_format.specs.Segment.{Segment, extent, in_segment, data_of, directory_id, subblock_id}
+use Rattle.czi_format.specs.Live.{Live, Directory, directory, Tile, subblock_of}
+use Rattle.czi_format.specs.Segment.{Segment, extent, in_segment, directory_id, subblock_id}
 use Rattle.czi_format.specs.Shows.{entries, subblock_at}
-use Rattle.czi_format.specs.Space.{Space, Full, Fit, fit, place_for, use_span, same_span}
+use Rattle.czi_format.specs.Space.{Space, Full, fit, place_for, use_span}
 use Rattle.czi_format.specs.Span.{Span, end_of}
-use Rattle.czi_machine.specs.Change.{Act, keep, omit, bring, changed, kept, omitted, brought, mapped, past, into, out, same, to}
+use Rattle.czi_machine.specs.Change.{Act, keep, changed, kept, omitted, brought, mapped, into, out}
 use Rattle.czi_machine.specs.Cover.{between, cover}
 use Rattle.czi_machine.specs.Data.{directory_data}
-use Rattle.czi_machine.specs.Edit.{remove, effect, in_subblocks, after, Refusal}
+use Rattle.czi_machine.specs.Edit.{remove, effect, in_subblocks, after}
 use Rattle.czi_machine.specs.Laws.{Leads, Lies}
-use Rattle.czi_machine.specs.Machine.{after_edit, after_undo, after_undo_of, edited, restored, as_refusal}
-use Rattle.czi_machine.specs.Places.{Fitted, edit_next, undo_next, laid, freeing, new_place, space_of, subblock_need, directory_need, live_places, directories}
-use Rattle.czi_machine.specs.Puts.{PutsSegment, PutsHeader, StandsWith, HasRoom}
-use Rattle.czi_machine.specs.Removal.{with_directory, PlansDirectory, PlansRemoval, before_removal, IsHeldTile, PlansReturn, with_directory_at, removal_need, removed_layout, returned_layout}
-use Rattle.czi_machine.specs.Sound.{live_spans, IsExact, IsSound}
-use Rattle.czi_machine.specs.State.{Items, Former, State, held, items_of, item_spans, spans_of}
-use Rattle.czi_machine.specs.Table.{changes, fit_brought, subblocks_laid, subblocks_undone, AreApart, AreNew, former_with}
+use Rattle.czi_machine.specs.Machine.{after_edit, edited, as_refusal}
+use Rattle.czi_machine.specs.Places.{edit_next, undo_next, laid, new_place, space_of, subblock_need, directory_need, live_places}
+use Rattle.czi_machine.specs.Puts.{StandsWith, HasRoom}
+use Rattle.czi_machine.specs.Removal.{with_directory, PlansDirectory, PlansRemoval, with_directory_at, removal_need, removed_layout, returned_layout}
+use Rattle.czi_machine.specs.Sound.{IsExact, IsSound}
+use Rattle.czi_machine.specs.State.{Items, State, items_of, spans_of}
+use Rattle.czi_machine.specs.Table.{changes, fit_brought, AreApart, AreNew, former_with}
 use Rattle.czi_machine.specs.Tiled.{here, tiled_layout}
 use Rattle.czi_machine.specs.Turn.{Turn, turned, new_segments, effect_of, LiesAt}
-use Rattle.czi_machine.specs.Writes.{WritesAround, ReadsNew, Writes}
+use Rattle.czi_machine.specs.Writes.{Writes}
 use Rattle.czi_machine.specs.Written.{Piece, Wrote}
 use Rattle.czi_machine.proofs.Asking.{or_true}
 use Rattle.czi_machine.proofs.Changing.{map-changed}
@@ -33,11 +33,9 @@ use Rattle.czi_machine.proofs.Clear.{HeaderAt, header_at_front, turned_cover}
 use Rattle.czi_machine.proofs.Command.{Written, was_written, commanded}
 use Rattle.czi_machine.proofs.Cover.{between_in, between_high}
 use Rattle.czi_machine.proofs.Exact.{goes_on, few_exact}
-use Rattle.czi_machine.proofs.Placing.{cover-live_places}
-use Rattle.czi_machine.proofs.Leaving.{among_covers, none_among}
 use Rattle.czi_machine.proofs.Lying.{Tiling, tiling}
 use Rattle.czi_machine.proofs.NewDirectory.{directory_read}
-use Rattle.czi_machine.proofs.NewSegment.{written_stands, held_stands, held_subblock}
+use Rattle.czi_machine.proofs.NewSegment.{written_stands}
 use Rattle.czi_machine.proofs.TableSubblocks.{subblocks_row}
 use Rattle.czi_machine.proofs.TableUndo.{subblocks_undone_row}
 use Rattle.czi_machine.proofs.Tiled.{All-map, All-weaken, between_one}

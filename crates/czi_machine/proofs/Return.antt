@@ -1,24 +1,23 @@
 -- The undo of a removal, from its plan.
-use Rattle.std.proofs.Common.{◌≡◌, ℕ, ◌+◌, ◌-◌, ◌≤◌, ◌<◌, ◌^◌, pos, List, [], ◌∷◌, ◌++◌, map, length, true, false, Some, Result, Ok, Err, refl, ap, sym, ◌∙◌, arith, inl, inr, subst}
-use Rattle.std.specs.List.{AllByRecursion, list_any}
+use Rattle.std.proofs.Common.{◌≡◌, ℕ, ◌+◌, ◌-◌, ◌≤◌, List, [], ◌∷◌, ◌++◌, map, length, Some, Ok, refl, ap, sym, ◌∙◌, arith, inl, inr, subst}
+use Rattle.std.specs.List.{AllByRecursion}
 use Rattle.std.proofs.lemmas.Bool.{cases_lt}
-use Rattle.czi_format.specs.Document.{Document, Subblock}
+use Rattle.czi_format.specs.Document.{Subblock}
 use Rattle.czi_format.specs.FirstFault.{◌>>=◌, with_fault}
-use Rattle.czi_format.specs.Layout.{Place, Layout}
+use Rattle.czi_format.specs.Layout.{Layout}
 use Rattle.czi_format.specs.Live.{Live, Directory, Tile, subblock_of}
-use Rattle.czi_format.specs.Segment.{Segment, extent, data_of, subblock_id}
+use Rattle.czi_format.specs.Segment.{extent, data_of}
 use Rattle.czi_format.specs.Shows.{subblock_at}
-use Rattle.czi_format.specs.Space.{same_span}
-use Rattle.czi_format.specs.Span.{Span, end_of}
-use Rattle.czi_machine.specs.Change.{Act, changed, brought, mapped, into, same, to}
+use Rattle.czi_format.specs.Span.{end_of}
+use Rattle.czi_machine.specs.Change.{Act, changed, into}
 use Rattle.czi_machine.specs.Cover.{between, cover}
 use Rattle.czi_machine.specs.Edit.{after}
-use Rattle.czi_machine.specs.Laws.{Leads, Lies}
+use Rattle.czi_machine.specs.Laws.{Lies}
 use Rattle.czi_machine.specs.Machine.{after_undo, after_undo_of, restored, as_refusal}
-use Rattle.czi_machine.specs.Places.{undo_next, laid, directory_need, space_of}
+use Rattle.czi_machine.specs.Places.{undo_next, laid, directory_need}
 use Rattle.czi_machine.specs.Puts.{StandsWith, HasRoom}
 use Rattle.czi_machine.specs.Removal.{with_directory, before_removal, IsHeldTile, PlansReturn, returned_layout}
-use Rattle.czi_machine.specs.Sound.{live_spans, IsExact, IsSound}
+use Rattle.czi_machine.specs.Sound.{IsSound}
 use Rattle.czi_machine.specs.State.{Former, State, held, items_of, item_spans}
 use Rattle.czi_machine.specs.Table.{AreNew}
 use Rattle.czi_machine.specs.Tiled.{here}
@@ -32,18 +31,21 @@ use Rattle.czi_machine.proofs.Placing.{held_covered, cover-live_places}
 use Rattle.czi_machine.proofs.Leaving.{among_covers, none_among}
 use Rattle.czi_machine.proofs.Lying.{Tiling, tiling}
 use Rattle.czi_machine.proofs.NewSegment.{held_stands, held_subblock}
-use Rattle.czi_machine.proofs.Removal.{Lying, lying, reads_directory, return_laid, apart_exact, with_directory_lies, directory_here, mapped_into, brought_into, dirs_among, only, subblock_long}
+use Rattle.czi_machine.proofs.Removal.{lying, reads_directory, return_laid, apart_exact, with_directory_lies, directory_here, mapped_into, brought_into, dirs_among, only, subblock_long}
 
 -- a held subblock isn't among the present items
 held_new : (image : List ℕ) (s : State) (x : Tile) → IsSound s → IsHeldTile image s x → AreNew s.layout (here x.segment ∷ [])
-held_new image s x is h = (none_among (extent x.segment) (item_spans (items_of s.layout)) (omega arith) (λ p. omega (
-  arith,
-  among_covers (extent x.segment) (held s) p h.held,
-  held_covered s p (sound_tidy s is),
-  ap (λ z. cover z p) (nothing_dead_held s is.formers),
-  few_exact s.layout p is.layout,
-  cover-live_places s.layout p,
-)), tt)
+held_new image s x is h = (
+  none_among (extent x.segment) (item_spans (items_of s.layout)) (omega arith) (λ p. omega (
+    arith,
+    among_covers (extent x.segment) (held s) p h.held,
+    held_covered s p (sound_tidy s is),
+    ap (λ z. cover z p) (nothing_dead_held s is.formers),
+    few_exact s.layout p is.layout,
+    cover-live_places s.layout p,
+  )),
+  tt,
+)
 
 -- it lies in the image
 held_inside : (image : List ℕ) (s : State) (x : Tile) → IsSound s → IsHeldTile image s x → end_of (extent x.segment) ≤ s.layout.length

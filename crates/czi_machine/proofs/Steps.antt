@@ -1,14 +1,14 @@
 -- A sound state stays sound: after an edit, and after an undo.
-use Rattle.std.proofs.Common.{◌≡◌, ℕ, zero, suc, List, [], ◌∷◌, map, take, Ok, true, ap, sym, arith, subst}
+use Rattle.std.proofs.Common.{◌≡◌, ℕ, zero, suc, List, [], ◌∷◌, take, Ok, true, ap, arith, subst}
 use Rattle.std.specs.List.{AllByRecursion}
 use Rattle.czi_format.specs.Document.{Document}
-use Rattle.czi_format.specs.Layout.{Place, Layout}
+use Rattle.czi_format.specs.Layout.{Place}
 use Rattle.czi_machine.specs.Cover.{cover, IsWhole}
 use Rattle.czi_machine.specs.Edit.{DocumentEffect}
 use Rattle.czi_machine.specs.Machine.{edited, restored}
 use Rattle.czi_machine.specs.Places.{Next, Placed, edit_next, undo_next, placed, relaid, live_places, space_of}
 use Rattle.czi_machine.specs.Sound.{IsExact, AreItems, dead_held, IsTidy, IsSound}
-use Rattle.czi_machine.specs.State.{Items, Former, State, items_of, item_places}
+use Rattle.czi_machine.specs.State.{Former, State, items_of, item_places}
 use Rattle.czi_machine.proofs.Exact.{relaid_exact, sound_tidy, tidy_sound, nothing_dead_held}
 use Rattle.czi_machine.proofs.Nexts.{edit_is_next, edit_well, edit_directories_well, undo_is_next, undo_well, undo_directories_well}
 use Rattle.czi_machine.proofs.Placing.{IsNext, Placing, placing, few_items, live_parts}

@@ -1,18 +1,18 @@
 -- A tidy state stays tidy: after an edit, and after an undo.
-use Rattle.std.proofs.Common.{◌≡◌, ℕ, zero, suc, ◌+◌, ◌≤◌, ◌<◌, List, [], ◌∷◌, ◌++◌, map, take, Bool, true, false, not, Option, Some, None, Ok, option_map, option_to_list, refl, ap, sym, ◌∙◌, arith, subst, ◌⊎◌, inl, inr}
+use Rattle.std.proofs.Common.{◌≡◌, ℕ, zero, suc, ◌+◌, ◌≤◌, ◌<◌, List, [], ◌∷◌, ◌++◌, map, take, Bool, true, not, Option, Some, None, Ok, option_map, option_to_list, refl, ap, sym, ◌∙◌, arith, subst, ◌⊎◌, inl, inr}
 use Rattle.std.specs.List.{AllByRecursion, filter, list_any}
 use Rattle.std.proofs.lemmas.Bool.{cases_lt, cases_Bool}
 use Rattle.std.proofs.lemmas.List.Elements.{filter-append}
 use Rattle.czi_format.specs.Document.{Document}
 use Rattle.czi_format.specs.Layout.{Place, Layout}
 use Rattle.czi_format.specs.Span.{Span, end_of}
-use Rattle.czi_format.specs.Space.{Space, Full, same_span, without, deleted_after}
+use Rattle.czi_format.specs.Space.{Space, same_span, without}
 use Rattle.czi_format.proofs.Local.{All-append}
 use Rattle.czi_machine.specs.Cover.{between, cover, Chained, IsWhole, LiesInOne}
 use Rattle.czi_machine.specs.Edit.{DocumentEffect}
 use Rattle.czi_machine.specs.Machine.{edited, restored}
 use Rattle.czi_machine.specs.Places.{Next, Placed, Fitted, fit_one, fit_each, fit_option, stays_or_back, edit_next, undo_next, placed, relaid, leaving, staying, items_asked, directories_asked, directories, live_places, can_be_used, space_of}
-use Rattle.czi_machine.specs.Sound.{all_places, live_spans, usable_held, dead_held, AreDistinct, IsTidy}
+use Rattle.czi_machine.specs.Sound.{all_places, live_spans, dead_held, AreDistinct, IsTidy}
 use Rattle.czi_machine.specs.State.{Items, Former, State, held, held_by, items_of, item_places, item_spans, spans_of, not_among}
 use Rattle.czi_format.proofs.Rules.{on_ok}
 use Rattle.czi_machine.specs.Writes.{dead}
@@ -20,9 +20,9 @@ use Rattle.czi_machine.proofs.Asking.{going_back, spans-append, ok_is}
 use Rattle.czi_machine.proofs.Cover.{between_high, without_in, without_out, cover-append, cover-deleted_after}
 use Rattle.czi_machine.proofs.InOne.{in_deleted_after, freed_in}
 use Rattle.czi_machine.proofs.Keeps.{deleted_after_whole_from, deleted_after_chained_from}
-use Rattle.czi_machine.proofs.Leaving.{among_before, among_behind, cover-split, cover-fewer, cover-fewer_of, All-fewer_of, not_fewer}
+use Rattle.czi_machine.proofs.Leaving.{among_themselves, among_before, among_behind, cover-split, cover-fewer_of, All-fewer_of, not_fewer}
 use Rattle.czi_machine.proofs.Nexts.{edit_goes_back, edit_is_next, undo_goes_back, undo_is_next, held_first}
-use Rattle.czi_machine.proofs.Placing.{IsNext, Placing, placing, covers_own, used_is, used_covered, used_past, used_whole_or_apart, avoids_held, held_covered, held_parts, few_items, live_parts, parts_live, cover-live_places, leaving_staying, leaving_some, freed_whole, without_whole_apart, without_fewer}
+use Rattle.czi_machine.proofs.Placing.{IsNext, Placing, placing, covers_own, used_is, used_covered, used_past, used_whole_or_apart, avoids_held, held_covered, held_parts, few_items, live_parts, parts_live, cover-live_places, leaving_staying, leaving_some, freed_whole, without_whole_apart}
 use Rattle.czi_machine.proofs.Steady.{on_all}
 use Rattle.czi_machine.proofs.Tiled.{All-both, All-filter, All-map, map-All, All-weaken, between_one}
 
@@ -439,3 +439,32 @@ pub marked_once : (s : State) (n : Next) (pl : Placed) (p : ℕ) → IsTidy s �
 marked_once s n pl p is nx at =
     let once = relaid_once s n pl p (cover (dead_of s.layout n) p) is nx at (λ k. omega arith) (λ k. omega arith) in
     omega (arith, once.0, dead_places s n pl p at)
+
+-- Each held span afterwards was live, or was held.
+HeldFrom : State → Span → Type 0
+HeldFrom s h = (list_any (same_span h) (spans_of (live_places s.layout)) ≡ true) ⊎ ((p : ℕ) → between h.at (end_of h) p ≤ cover (held s) p)
+
+within_more : (xs : List Span) (X : ℕ → ℕ) → ((p : ℕ) → cover xs p ≤ X p) → AllByRecursion (λ (h : Span). (p : ℕ) → between h.at (end_of h) p ≤ X p) xs
+within_more xs X fewer = All-weaken (λ (h : Span). (p : ℕ) → between h.at (end_of h) p ≤ cover xs p) _ (λ h own p. omega (arith, own p, fewer p)) xs (covers_own xs)
+
+pub edited_from : (s : State) (d : Document) (l : Layout)
+    → AllByRecursion (λ (h : Span). (list_any (same_span h) (spans_of (live_places s.layout)) ≡ true) ⊎ ((p : ℕ) → between h.at (end_of h) p ≤ cover (held s) p)) (held (edited s d l))
+unfolding HeldFrom
+edited_from s d l =
+    let items : List Place = item_places (items_of s.layout) in
+    let new : List Place = not_among (item_spans (items_of l)) items in
+    let rest : List Place = held_by (items_of s.layout) (take 31 s.formers) in
+    let own : AllByRecursion (λ (q : Place). HeldFrom s q.span) items =
+    All-weaken (λ (q : Place). list_any (same_span q.span) (item_spans (items_of s.layout)) ≡ true) (λ (q : Place). HeldFrom s q.span) (λ q e. inl (item_live s.layout q.span e)) items
+    (All-map (λ (q : Place). q.span) (λ t. list_any (same_span t) (item_spans (items_of s.layout)) ≡ true) items (among_themselves (item_spans (items_of s.layout)))) in
+    subst (AllByRecursion (HeldFrom s)) (sym (spans-append new rest)) (All-both (HeldFrom s) (spans_of new) (spans_of rest)
+    (map-All (λ (q : Place). q.span) (HeldFrom s) new (All-filter _ _ items own))
+    (All-weaken _ (HeldFrom s) (λ h own. inr own) (spans_of rest) (within_more (spans_of rest) (λ p. cover (held s) p) (λ p. held_few (items_of s.layout) s.formers 31 p))))
+
+pub restored_from : (s : State) (f : Former) (formers : List Former) (pl : Placed) → IsTidy s → s.formers ≡ f ∷ formers → placed s.layout (space_of s) (undo_next s f) ≡ Ok pl
+    → AllByRecursion (λ (h : Span). (list_any (same_span h) (spans_of (live_places s.layout)) ≡ true) ⊎ ((p : ℕ) → between h.at (end_of h) p ≤ cover (held s) p)) (held (restored s f formers (relaid s.layout (undo_next s f) pl)))
+unfolding HeldFrom
+restored_from s f formers pl is newest placed_is =
+    let same : pl.items ≡ f.items = undo_places s f pl placed_is in
+    let rest : List Span = held (restored s f formers (relaid s.layout (undo_next s f) pl)) in
+    All-weaken _ (HeldFrom s) (λ h own. inr own) rest (within_more rest (λ p. cover (held s) p) (λ p. omega (arith, ap (λ z. cover (spans_of (held_by z formers)) p) same, held_first s f formers p newest)))

@@ -1,5 +1,5 @@
 -- The laws of steady images and of edits, as statements.
-use Rattle.std.specs.Prelude.{◌≡◌, ◌⊎◌, ℕ, ◌+◌, ◌-◌, ◌≤◌, List, [], ◌∷◌, map, length, filter, Ok}
+use Rattle.std.specs.Prelude.{◌≡◌, ◌⊎◌, ℕ, ◌+◌, ◌-◌, ◌≤◌, List, [], ◌∷◌, length, filter, Ok}
 use Rattle.std.specs.List.{AllByRecursion}
 use Rattle.czi_format.specs.Document.{Document}
 use Rattle.czi_format.specs.Layout.{Place, Layout, HasLayout, IsSteady, is_free, is_unknown}
@@ -95,6 +95,12 @@ abbrev pub AnyCommands : Type 0
 AnyCommands = (image other : List ℕ) (s s' : State) (live : Live) (t : Turn) (pieces : List Piece) → LiesLoosely image live s → IsTidy s → Leads s s'
     → SpansAt s'.layout (turned t live) → s'.document ≡ after (effect_of other t) s.document
     → Writes image other t live s.layout s'.layout pieces → LiesLoosely other (turned t live) s'
+
+-- The bytes of held spans past their first 32 are kept there too.
+abbrev pub AnyKeepsHeld : Type 0
+AnyKeepsHeld = (image other : List ℕ) (s s' : State) (live : Live) (t : Turn) (pieces : List Piece) → LiesLoosely image live s → IsTidy s → Leads s s' → SpansAt s'.layout (turned t live)
+    → Writes image other t live s.layout s'.layout pieces
+    → AllByRecursion (λ (h : Span). bytes_at other (h.at + 32) (h.len - 32) ≡ bytes_at image (h.at + 32) (h.len - 32)) (held s')
 
 -- After the plan of a removal was written, the image shows the document without the subblock; the machine leads there.
 abbrev pub Removes : Type 0

@@ -4,7 +4,7 @@ use Rattle.std.specs.List.{AllByRecursion, list_any}
 use Rattle.czi_format.specs.Document.{Document, Subblock}
 use Rattle.czi_format.specs.Entry.{Entry, IsEntry}
 use Rattle.czi_format.specs.Layout.{Place, Layout}
-use Rattle.czi_format.specs.Live.{Live, Directory, Tile, tile, subblock_of}
+use Rattle.czi_format.specs.Live.{Live, Directory, Tile, tile}
 use Rattle.czi_format.specs.Segment.{extent, data_of, directory_id, subblock_id}
 use Rattle.czi_format.specs.Space.{Full, same_span, place_for}
 use Rattle.czi_format.specs.Span.{Span, end_of}
@@ -15,7 +15,6 @@ use Rattle.czi_machine.specs.Data.{directory_data}
 use Rattle.czi_machine.specs.Places.{edit_next, undo_next, laid, freeing, new_place, directory_need, space_of}
 use Rattle.czi_machine.specs.Puts.{PutsSegment, PutsHeader}
 use Rattle.czi_machine.specs.State.{Items, State, held, items_of, Former}
-use Rattle.czi_machine.specs.Tiled.{here}
 use Rattle.czi_machine.specs.Turn.{Turn}
 use Rattle.czi_machine.specs.Writes.{WritesAround}
 use Rattle.czi_machine.specs.Written.{Piece}

@@ -1,4 +1,4 @@
-use Rattle.czi_machine.proofs.AnyCommand.{any_commanded}
+use Rattle.czi_machine.proofs.AnyCommand.{any_commanded, any_held_kept}
 use Rattle.czi_machine.proofs.Led.{stays_tidy}
 use Rattle.czi_machine.proofs.Opened.{opened_tidy}
 use Rattle.czi_machine.proofs.Shown.{any_image}
@@ -15,3 +15,6 @@ returns-clause-kept c = stays_tidy
 
 pub returns-clause-shown : goal.returns-clause-shown
 returns-clause-shown c = any_commanded
+
+pub returns-clause-held : goal.returns-clause-held
+returns-clause-held c = any_held_kept
