@@ -37,3 +37,4 @@ pub mod TableUndo
 pub mod Removal
 pub mod Return
 pub mod Anywhere
+pub mod BroughtBack

@@ -17,4 +17,5 @@ pub mod Turn
 pub mod Writes
 pub mod Puts
 pub mod Removal
+pub mod Formers
 pub mod Laws
