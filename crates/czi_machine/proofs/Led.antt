@@ -30,11 +30,11 @@ pub record Led (s s' : State) : Type 0 where
   pub held_before : (p : ℕ) → s.layout.length ≤ p → cover (held s') p ≡ 0
   pub marks : (p : ℕ) → cover (live_spans s'.layout) p + (cover s'.layout.deleted p + cover (dead s.layout s'.layout) p) ≤ 1
 
-no_fault : {A D E : Type 0} (f : D → E) (r : Result A D) (x : A) → with_fault f r ≡ Ok x → r ≡ Ok x
+pub no_fault : {A D E : Type 0} (f : D → E) (r : Result A D) (x : A) → with_fault f r ≡ Ok x → r ≡ Ok x
 no_fault f (Ok y) x e = let same : y ≡ x = cc (e) in ap Ok same
 no_fault f (Err y) x e = absurd (cc (e))
 
-result_is : {A E : Type 0} (a b : A) → (let r : Result A E = Ok a in r) ≡ Ok b → a ≡ b
+pub result_is : {A E : Type 0} (a b : A) → (let r : Result A E = Ok a in r) ≡ Ok b → a ≡ b
 result_is a b e = cc
 
 pub edit_led : (s s' : State) (c : Edit) → IsTidy s → after_edit s c ≡ Ok s' → Led s s'

@@ -38,3 +38,5 @@ pub mod Removal
 pub mod Return
 pub mod Anywhere
 pub mod BroughtBack
+pub mod Inverse
+pub mod FormersKept
