@@ -40,3 +40,4 @@ pub mod Anywhere
 pub mod BroughtBack
 pub mod Inverse
 pub mod FormersKept
+pub mod EditsBringBack
