@@ -81,6 +81,17 @@ all_spans l live at =
     ∙ ap (λ z. map extent tiles ++ z) (map-append extent attdir (atts ++ meta) ∙ ap (λ z. map extent attdir ++ z) (map-append extent atts meta))) in
     λ i. at.header i ∷ (places ∙ ((λ j. d_is j ++ (t_is j ++ (x_is j ++ (a_is j ++ m_is j)))) ∙ sym extents)) i
 
+-- what is live afterwards, and the marked extents, have no place twice
+pub once_after : (s s' : State) (live : Live) (t : Turn) (image : List ℕ) → LiesLoosely image live s → Led s s' → SpansAt s'.layout (turned t live) → AreOnce live t (marked s.layout s'.layout)
+once_after s s' live t image lies l at =
+    let dead_long : AllByRecursion IsLong (dead s.layout s'.layout) =
+    filtered_spans IsLong (λ (p : Place). not (can_be_used p)) (not_among (spans_of (live_places s'.layout)) (live_places s.layout))
+    (filtered_spans IsLong _ (live_places s.layout) (subst (AllByRecursion IsLong) (sym (all_spans s.layout live lies.extents)) (extents_long (segments live))).1) in
+    record {
+      once = λ p. omega (arith, l.marks p, ap (λ z. cover z p) (all_spans s'.layout (turned t live) at), cover-append s'.layout.deleted (dead s.layout s'.layout) p);
+      long = All-both IsLong s'.layout.deleted (dead s.layout s'.layout) (All-weaken IsWhole IsLong (λ e h. omega (arith, h.len, h.some)) s'.layout.deleted l.tidy.deleted_whole) dead_long;
+    }
+
 pub any_commanded : (image other : List ℕ) (s s' : State) (live : Live) (t : Turn) (pieces : List Piece) → LiesLoosely image live s → IsTidy s → Leads s s'
     → SpansAt s'.layout (turned t live) → s'.document ≡ after (effect_of other t) s.document
     → Writes image other t live s.layout s'.layout pieces → LiesLoosely other (turned t live) s'
@@ -88,13 +99,7 @@ any_commanded image other s s' live t pieces lies is leads at document_is w =
     let l : Led s s' = led s s' is leads in
     let marks : List Span = marked s.layout s'.layout in
     let longer : length image ≤ length other = omega (arith, l.longer, lies.length, w.long) in
-    let dead_long : AllByRecursion IsLong (dead s.layout s'.layout) =
-    filtered_spans IsLong (λ (p : Place). not (can_be_used p)) (not_among (spans_of (live_places s'.layout)) (live_places s.layout))
-    (filtered_spans IsLong _ (live_places s.layout) (subst (AllByRecursion IsLong) (sym (all_spans s.layout live lies.extents)) (extents_long (segments live))).1) in
-    let once : AreOnce live t marks = record {
-      once = λ p. omega (arith, l.marks p, ap (λ z. cover z p) (all_spans s'.layout (turned t live) at), cover-append s'.layout.deleted (dead s.layout s'.layout) p);
-      long = All-both IsLong s'.layout.deleted (dead s.layout s'.layout) (All-weaken IsWhole IsLong (λ e h. omega (arith, h.len, h.some)) s'.layout.deleted l.tidy.deleted_whole) dead_long;
-    } in
+    let once : AreOnce live t marks = once_after s s' live t image lies l at in
     record {
       reaches = reaches_turned image other live t marks pieces lies.reaches w.around.inside once w.wrote longer w.new;
       document = document_is ∙ (ap (after (effect_of other t)) lies.document ∙ sym (document_turned image other live t marks pieces lies.reaches w.around.inside once w.wrote longer));

@@ -1,17 +1,17 @@
 -- What brings a former document back still does, where the bytes of held items are the same.
-use Rattle.std.proofs.Common.{◌≡◌, ℕ, zero, suc, ◌+◌, ◌-◌, ◌≤◌, pos, List, [], ◌∷◌, ◌++◌, map, take, length, Bool, true, false, not, Option, Some, None, option_to_list, refl, ap, sym, ◌∙◌, arith, subst, inl, inr}
+use Rattle.std.proofs.Common.{◌≡◌, ℕ, zero, suc, ◌+◌, ◌-◌, List, [], ◌∷◌, ◌++◌, take, Bool, true, false, not, Option, Some, None, option_to_list, refl, ap, sym, ◌∙◌, arith, subst, inl, inr}
 use Rattle.std.specs.List.{AllByRecursion, filter, list_any}
 use Rattle.std.proofs.lemmas.Bool.{cases_Bool}
 use Rattle.czi_format.specs.Bytes.{bytes_at}
 use Rattle.czi_format.specs.Layout.{Place}
 use Rattle.czi_format.specs.Live.{Tile, tile, AttItem, att_item, MetaItem, meta_item, subblock_of, attachment_of, metadata_of}
-use Rattle.czi_format.specs.Segment.{Segment, extent, data_of, subblock_id, attachment_id, metadata_id}
+use Rattle.czi_format.specs.Segment.{Segment, extent, data_of}
 use Rattle.czi_format.specs.Space.{same_span}
 use Rattle.czi_format.specs.Span.{Span}
 use Rattle.czi_format.proofs.Local.{All-append}
-use Rattle.czi_machine.specs.Change.{Act, keep, omit, bring, changed, brought, kept, omitted, inverted, mapped, Setting, same, to, set, set_new, mapped_setting}
+use Rattle.czi_machine.specs.Change.{Act, keep, omit, bring, changed, brought, mapped, Setting, same, to, set, set_new, mapped_setting}
 use Rattle.czi_machine.specs.Edit.{after}
-use Rattle.czi_machine.specs.Formers.{Lain, tile_place, attachment_place, metadata_place, Return, return_effect, return_items, brought_back, LiesHeld, BringBack}
+use Rattle.czi_machine.specs.Formers.{Lain, tile_place, attachment_place, metadata_place, Return, return_items, brought_back, LiesHeld, BringBack}
 use Rattle.czi_machine.specs.State.{Items, Former, held_by, item_places, item_spans, spans_of, not_among}
 use Rattle.czi_machine.proofs.Steady.{on_all}
 use Rattle.czi_machine.proofs.Tiled.{All-map, All-weaken}

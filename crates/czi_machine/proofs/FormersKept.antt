@@ -1,26 +1,22 @@
 -- After an edit and after an undo the former documents are brought back still.
-use Rattle.std.proofs.Common.{◌≡◌, ℕ, zero, suc, ◌+◌, ◌-◌, ◌≤◌, ◌<◌, pos, List, [], ◌∷◌, ◌++◌, map, take, length, Bool, true, false, not, Option, Some, None, Result, Ok, Err, option_map, option_to_list, refl, ap, sym, ◌∙◌, arith, subst, ◌⊎◌, inl, inr, bytes_eq}
-use Rattle.std.specs.List.{AllByRecursion, filter, list_any}
-use Rattle.std.proofs.lemmas.Bool.{cases_lt, cases_Bool}
-use Rattle.czi_format.specs.FirstFault.{◌>>=◌, with_fault}
+use Rattle.std.proofs.Common.{◌≡◌, ℕ, ◌+◌, ◌≤◌, ◌<◌, List, [], ◌∷◌, map, false, Option, Some, None, Result, Ok, option_map, refl, ap, sym, ◌∙◌, arith, subst, inl, inr}
+use Rattle.std.specs.List.{AllByRecursion, list_any}
+use Rattle.std.proofs.lemmas.Bool.{cases_lt}
+use Rattle.czi_format.specs.FirstFault.{with_fault}
 use Rattle.czi_format.specs.Layout.{Place, Layout}
-use Rattle.czi_format.specs.Live.{Live, Tile, tile, AttItem, att_item, MetaItem, meta_item, subblock_of, attachment_of, metadata_of}
-use Rattle.czi_format.specs.Partial.{none_or}
-use Rattle.czi_format.specs.Segment.{Segment, extent, data_of, in_segment, sound_segment, subblock_id, attachment_id, metadata_id}
-use Rattle.czi_format.specs.Shows.{Reaches, subblock_at, attachment_at}
+use Rattle.czi_format.specs.Live.{Live, subblock_of, attachment_of, metadata_of}
 use Rattle.czi_format.specs.Space.{Space, same_span}
 use Rattle.czi_format.specs.Span.{Span, end_of}
-use Rattle.czi_format.proofs.Local.{All-append}
 use Rattle.czi_format.proofs.Rules.{on_ok}
-use Rattle.czi_machine.specs.Change.{Act, changed, brought, kept, omitted, inverted, mapped, Setting, same, to, set, set_kept, set_omitted, set_new, mapped_setting, inverted_setting}
+use Rattle.czi_machine.specs.Change.{Act, changed, mapped, Setting, same, to, set, mapped_setting}
 use Rattle.czi_machine.specs.Cover.{between, cover}
 use Rattle.czi_machine.specs.Edit.{Edit, DocumentEffect, Refusal, effect, after}
 use Rattle.czi_machine.specs.Formers.{Return, BringBack, present}
 use Rattle.czi_machine.specs.Laws.{LiesLoosely}
 use Rattle.czi_machine.specs.Machine.{after_edit, after_undo, after_undo_of, as_refusal, edited, restored}
-use Rattle.czi_machine.specs.Places.{Asked, stays, fresh, Next, Placed, Fitted, fit_each, fit_option, subblock_need, attachment_need, metadata_need, edit_next, undo_next, placed, laid, relaid, leaving, staying, items_asked, live_places, space_of}
+use Rattle.czi_machine.specs.Places.{stays, fresh, Next, Placed, Fitted, fit_each, fit_option, subblock_need, attachment_need, metadata_need, edit_next, undo_next, placed, laid, relaid, staying, items_asked, space_of}
 use Rattle.czi_machine.specs.Sound.{IsTidy}
-use Rattle.czi_machine.specs.State.{Items, Former, State, held, held_by, items_of, item_places, item_spans, spans_of, not_among}
+use Rattle.czi_machine.specs.State.{Items, Former, State, held, items_of, item_places, item_spans, spans_of, not_among}
 use Rattle.czi_machine.specs.Turn.{Turn, turned, effect_of, SpansAt}
 use Rattle.czi_machine.specs.Writes.{Writes}
 use Rattle.czi_machine.specs.Written.{Piece}
@@ -30,10 +26,10 @@ use Rattle.czi_machine.proofs.Asking.{going_back, ok_is}
 use Rattle.czi_machine.proofs.Inverse.{SameShape, SameSetting, placed_shape}
 use Rattle.czi_machine.proofs.Leaving.{cover-leaving, none_among}
 use Rattle.czi_machine.proofs.Nexts.{edit_goes_back, edit_is_next}
-use Rattle.czi_machine.proofs.Placing.{IsNext, Placing, placing, used_is, used_covered, few_items, cover-live_places, live_parts, covers_own}
+use Rattle.czi_machine.proofs.Placing.{IsNext, Placing, used_is, used_covered, few_items, cover-live_places, live_parts, covers_own}
 use Rattle.czi_machine.proofs.Steady.{on_all}
 use Rattle.czi_machine.proofs.TableSubblocks.{placed_change, each_brought, option_stays}
-use Rattle.czi_machine.proofs.Tiled.{All-both, All-filter, All-map, map-All, All-weaken}
+use Rattle.czi_machine.proofs.Tiled.{All-filter, All-map}
 use Rattle.czi_machine.proofs.BroughtBack.{SameBehind, bring_back_same}
 use Rattle.czi_machine.proofs.Led.{no_fault, result_is}
 use Rattle.czi_machine.proofs.Tidy.{undo_places}
@@ -68,15 +64,15 @@ undos_bring_back image other s s' live t pieces r returns lies is e at w back = 
         bring_back_same image other (present s') returns s'.formers same_bytes here
 
 -- An edit, and where it put things.
-record Made (s s' : State) (e : DocumentEffect) : Type 0 where
-  at : Placed
-  there : placed s.layout (space_of s) (edit_next s e) ≡ Ok at
-  whole : edited s (after e s.document) (relaid s.layout (edit_next s e) at) ≡ s'
+pub record Made (s s' : State) (e : DocumentEffect) : Type 0 where
+  pub at : Placed
+  pub there : placed s.layout (space_of s) (edit_next s e) ≡ Ok at
+  pub whole : edited s (after e s.document) (relaid s.layout (edit_next s e) at) ≡ s'
 
 effect_is : (a b : DocumentEffect) (r : Result DocumentEffect Refusal) → r ≡ Ok a → r ≡ Ok b → a ≡ b
 effect_is a b r p q = cc
 
-edit_makes : (s s' : State) (c : Edit) (e : DocumentEffect) → effect s.document c ≡ Ok e → after_edit s c ≡ Ok s' → Made s s' e
+pub edit_makes : (s s' : State) (c : Edit) (e : DocumentEffect) → effect s.document c ≡ Ok e → after_edit s c ≡ Ok s' → Made s s' e
 edit_makes s s' c e known goes =
     on_ok (effect s.document c) _ s' goes λ f f_is more.
     on_ok (with_fault as_refusal (laid s (edit_next s f))) _ s' more λ l l_is done.
@@ -89,16 +85,16 @@ edit_makes s s' c e known goes =
     })
 
 -- The items after it are those before, changed at the same places.
-record ChangedLike (t : Turn) (l : Layout) (i : Items) : Type 0 where
-  tiles : List (Act Place)
-  tiles_shape : SameShape t.tiles tiles
-  subblocks : i.subblocks ≡ changed tiles l.subblocks
-  atts : List (Act Place)
-  atts_shape : SameShape t.attachments atts
-  attachments : i.attachments ≡ changed atts l.attachments
-  meta : Setting Place
-  meta_shape : SameSetting t.metadata meta
-  metadata : i.metadata ≡ set meta l.metadata
+pub record ChangedLike (t : Turn) (l : Layout) (i : Items) : Type 0 where
+  pub tiles : List (Act Place)
+  pub tiles_shape : SameShape t.tiles tiles
+  pub subblocks : i.subblocks ≡ changed tiles l.subblocks
+  pub atts : List (Act Place)
+  pub atts_shape : SameShape t.attachments atts
+  pub attachments : i.attachments ≡ changed atts l.attachments
+  pub meta : Setting Place
+  pub meta_shape : SameSetting t.metadata meta
+  pub metadata : i.metadata ≡ set meta l.metadata
 
 list_like : {W X : Type 0} (l : Layout) (space : Space) (need : X → ℕ) (g : W → X) (c : List (Act W)) (ps : List Place) (r : Fitted (List Place)) → fit_each l space (changed (mapped (λ x. fresh (need x)) (mapped g c)) (map stays ps)) ≡ Ok r
     → (d : List (Act Place)) × SameShape c d × (r.places ≡ changed d ps)
@@ -115,7 +111,7 @@ setting_like l space need g same old r e = (same, tt, ap (λ (z : Fitted (Option
 setting_like l space need g (to None) old r e = (to None, tt, ap (λ (z : Fitted (Option Place)). z.places) (sym (ok_is _ r e)))
 setting_like l space need g (to (Some x)) old r e = (to r.places, tt, refl)
 
-items_like : (image : List ℕ) (s : State) (t : Turn) (pl : Placed) → placed s.layout (space_of s) (edit_next s (effect_of image t)) ≡ Ok pl → ChangedLike t s.layout pl.items
+pub items_like : (image : List ℕ) (s : State) (t : Turn) (pl : Placed) → placed s.layout (space_of s) (edit_next s (effect_of image t)) ≡ Ok pl → ChangedLike t s.layout pl.items
 items_like image s t pl e =
     let l : Layout = s.layout in
     let n : Next = edit_next s (effect_of image t) in
@@ -141,11 +137,11 @@ items_like image s t pl e =
     }
 
 -- the items that leave
-gone_items : State → Next → List Place
+unfoldable pub gone_items : State → Next → List Place
 gone_items s n = not_among (staying (items_asked n)) (item_places (items_of s.layout))
 
 -- they aren't among the items afterwards
-gone_new : (s s' : State) (e : DocumentEffect) (pl : Placed) → IsTidy s → IsTidy s' → Placing s (edit_next s e) pl → items_of s'.layout ≡ pl.items
+pub gone_new : (s s' : State) (e : DocumentEffect) (pl : Placed) → IsTidy s → IsTidy s' → Placing s (edit_next s e) pl → items_of s'.layout ≡ pl.items
     → AllByRecursion (λ (q : Place). list_any (same_span q.span) (item_spans pl.items) ≡ false) (gone_items s (edit_next s e))
 unfolding gone_items
 gone_new s s' e pl is is' at items_are =

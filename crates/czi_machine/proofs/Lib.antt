@@ -40,4 +40,5 @@ pub mod Anywhere
 pub mod BroughtBack
 pub mod Inverse
 pub mod FormersKept
-pub mod EditsBringBack
+pub mod UndoneParts
+pub mod EditUndone

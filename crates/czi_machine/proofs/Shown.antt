@@ -24,7 +24,7 @@ use Rattle.czi_machine.proofs.Steady.{on_all}
 use Rattle.czi_machine.proofs.Tiled.{All-map, All-weaken}
 
 -- lists that a reading gives back, and the same element by element
-each_found : {X Y : Type 0} (read : X → Option Y) (source : Y → X) (ys : List Y) → map (λ y. read (source y)) ys ≡ map Some ys → AllByRecursion (λ y. read (source y) ≡ Some y) ys
+pub each_found : {X Y : Type 0} (read : X → Option Y) (source : Y → X) (ys : List Y) → map (λ y. read (source y)) ys ≡ map Some ys → AllByRecursion (λ y. read (source y) ≡ Some y) ys
 each_found read source [] e = tt
 each_found read source (y ∷ ys) e =
     let first : read (source y) ≡ Some y = cc in
@@ -123,14 +123,14 @@ few_attachments_turned other (to None) old items new was reads = omega arith
 few_attachments_turned other (to (Some d)) old items new was reads = reads.1
 
 -- What is kept of each kind is as before.
-record Kept (image other : List ℕ) (live : Live) (t : Turn) : Type 0 where
-  directory : AllByRecursion (SameExtent image other) (option_to_list (option_map (λ (d : Directory). d.segment) (set_kept t.directory live.directory)))
-  tiles : AllByRecursion (λ (x : Tile). SameExtent image other x.segment) (kept t.tiles live.tiles)
-  attdir : AllByRecursion (SameExtent image other) (option_to_list (option_map (λ (d : Directory). d.segment) (set_kept t.attdir live.attdir)))
-  attachments : AllByRecursion (λ (x : AttItem). SameExtent image other x.segment) (kept t.attachments live.attachments)
-  metadata : AllByRecursion (SameExtent image other) (option_to_list (option_map (λ (m : MetaItem). m.segment) (set_kept t.metadata live.metadata)))
+pub record Kept (image other : List ℕ) (live : Live) (t : Turn) : Type 0 where
+  pub directory : AllByRecursion (SameExtent image other) (option_to_list (option_map (λ (d : Directory). d.segment) (set_kept t.directory live.directory)))
+  pub tiles : AllByRecursion (λ (x : Tile). SameExtent image other x.segment) (kept t.tiles live.tiles)
+  pub attdir : AllByRecursion (SameExtent image other) (option_to_list (option_map (λ (d : Directory). d.segment) (set_kept t.attdir live.attdir)))
+  pub attachments : AllByRecursion (λ (x : AttItem). SameExtent image other x.segment) (kept t.attachments live.attachments)
+  pub metadata : AllByRecursion (SameExtent image other) (option_to_list (option_map (λ (m : MetaItem). m.segment) (set_kept t.metadata live.metadata)))
 
-kept_parts : (image other : List ℕ) (live : Live) (t : Turn) → AllByRecursion (SameExtent image other) (kept_segments t live) → Kept image other live t
+pub kept_parts : (image other : List ℕ) (live : Live) (t : Turn) → AllByRecursion (SameExtent image other) (kept_segments t live) → Kept image other live t
 kept_parts image other live t all =
     let P : Segment → Type 0 = SameExtent image other in
     let one = All-append P (option_to_list (option_map (λ (d : Directory). d.segment) (set_kept t.directory live.directory))) _ all in

@@ -3,7 +3,7 @@ use Rattle.std.specs.Prelude.{◌≡◌, ⊤, ℕ, pos, List, [], ◌∷◌, tak
 use Rattle.std.specs.List.{AllByRecursion, list_any}
 use Rattle.czi_format.specs.Layout.{Place, Layout}
 use Rattle.czi_format.specs.Live.{Live, Tile, tile, AttItem, att_item, MetaItem, meta_item, subblock_of, attachment_of, metadata_of}
-use Rattle.czi_format.specs.Segment.{Segment, extent, data_of, subblock_id, attachment_id, metadata_id}
+use Rattle.czi_format.specs.Segment.{extent, data_of, subblock_id, attachment_id, metadata_id}
 use Rattle.czi_format.specs.Space.{same_span}
 use Rattle.czi_machine.specs.Change.{Change, changed, brought, inverted, mapped, Setting, set, set_new, mapped_setting, inverted_setting}
 use Rattle.czi_machine.specs.Edit.{Edit, DocumentEffect, effect, after}

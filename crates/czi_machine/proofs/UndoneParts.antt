@@ -1,22 +1,17 @@
 -- What undoes an edit brings back the document before it.
-use Rattle.std.proofs.Common.{◌≡◌, ℕ, ◌+◌, ◌-◌, ◌≤◌, ℤ, pos, List, [], ◌∷◌, ◌++◌, map, take, length, Bool, true, false, not, Option, Some, None, Ok, option_map, option_to_list, refl, ap, sym, ◌∙◌, arith, subst, inl, inr}
-use Rattle.std.specs.List.{AllByRecursion, filter, list_any}
-use Rattle.czi_format.specs.Layout.{Place, Layout}
-use Rattle.czi_format.specs.Live.{Live, Directory, Tile, tile, AttItem, att_item, MetaItem, meta_item, document, subblock_of, attachment_of, metadata_of}
-use Rattle.czi_format.specs.Partial.{none_or}
-use Rattle.czi_format.specs.Same.{SameExtent}
-use Rattle.czi_format.specs.Segment.{Segment, extent, data_of, in_segment, sound_segment, subblock_id, attachment_id, metadata_id}
-use Rattle.czi_format.specs.Shows.{Reaches, subblock_at, attachment_at}
-use Rattle.czi_format.specs.Space.{same_span}
+use Rattle.std.proofs.Common.{◌≡◌, ℕ, ℤ, pos, List, [], ◌∷◌, map, Option, Some, None, option_map, option_to_list, refl, ap, sym, ◌∙◌, subst}
+use Rattle.std.specs.List.{AllByRecursion}
+use Rattle.czi_format.specs.Layout.{Place}
+use Rattle.czi_format.specs.Segment.{Segment, data_of, in_segment, sound_segment}
 use Rattle.czi_format.specs.Span.{Span}
-use Rattle.czi_format.proofs.Local.{All-append, IsItsOwn, data_same, tile_own, att_item_own, meta_item_own}
+use Rattle.czi_format.proofs.Local.{IsItsOwn}
 use Rattle.czi_format.proofs.Readings.{bind_some, both_true, IsSound, is_sound}
-use Rattle.czi_machine.specs.Change.{Act, changed, brought, kept, omitted, inverted, mapped, Setting, same, to, set, set_kept, set_omitted, set_new, mapped_setting, inverted_setting}
+use Rattle.czi_machine.specs.Change.{Act, changed, brought, omitted, inverted, mapped, Setting, same, to, set, set_kept, set_omitted, set_new, mapped_setting, inverted_setting}
 use Rattle.czi_machine.specs.Formers.{Lain, lain, lain_option}
-use Rattle.czi_machine.proofs.Inverse.{SameShape, shape_mapped, undone_list, SameSetting, setting_mapped, undone_setting, brought_inverted, set_inverted, All-rejoined, All-omitted, omitted_map, lain_items, lain_places, lain_option_item, lain_option_place}
+use Rattle.czi_machine.proofs.Inverse.{SameShape, shape_mapped, undone_list, SameSetting, brought_inverted, All-omitted, omitted_map, lain_items, lain_places}
 use Rattle.czi_machine.proofs.LiveStand.{bytes_same}
 use Rattle.czi_machine.proofs.Steady.{on_all}
-use Rattle.czi_machine.proofs.Tiled.{All-map, map-All, All-weaken}
+use Rattle.czi_machine.proofs.Tiled.{All-map, map-All}
 
 -- what is read in a live segment, in its own words
 pub record IsRead {X : Type 0} (image id : List ℕ) (position : ℤ) (read : Segment → List ℕ → Option X) (segment : X → Segment) (x : X) : Type 0 where
