@@ -15,7 +15,7 @@ use Rattle.czi_machine.specs.Change.{Act, changed, kept, mapped, into, out}
 use Rattle.czi_machine.specs.Cover.{between, cover}
 use Rattle.czi_machine.specs.Edit.{remove, effect, in_subblocks, after}
 use Rattle.czi_machine.specs.Laws.{Leads, LiesLoosely}
-use Rattle.czi_machine.specs.Machine.{after_edit, after_undo, after_undo_of, edited, restored, as_refusal}
+use Rattle.czi_machine.specs.Machine.{after_effect, after_edit, after_undo, after_undo_of, edited, restored, as_refusal}
 use Rattle.czi_machine.specs.Places.{edit_next, undo_next, laid, directory_need}
 use Rattle.czi_machine.specs.Puts.{StandsWith, HasRoom}
 use Rattle.czi_machine.specs.Removal.{with_directory, PlansRemoval, before_removal, IsHeldTile, PlansReturn, removal_need, removed_layout, returned_layout}
@@ -114,9 +114,9 @@ pub removes_anywhere : (image other : List ℕ) (s : State) (live : Live) (dims 
 removes_anywhere image other s live dims i d padding l' pieces lies is effect_is laid_is plan wrote long =
     let t : Turn = with_directory d (out i) in
     let s' : State = edited s (after (in_subblocks (out i)) s.document) l' in
-    let goes : after_edit s (remove dims) ≡ Ok s' = ap (λ r. r >>= λ e. with_fault as_refusal (laid s (edit_next s e)) >>= λ l. Ok (edited s (after e s.document) l)) effect_is
-    ∙ ap (λ r. with_fault as_refusal r >>= λ l. Ok (edited s (after (in_subblocks (out i)) s.document) l)) laid_is in
-    let leads : Leads s s' = inl (remove dims, goes) in
+    let makes : after_effect s (in_subblocks (out i)) ≡ Ok s' = ap (λ r. with_fault as_refusal r >>= λ l. Ok (edited s (after (in_subblocks (out i)) s.document) l)) laid_is in
+    let goes : after_edit s (remove dims) ≡ Ok s' = ap (λ r. r >>= after_effect s) effect_is ∙ makes in
+    let leads : Leads s s' = inl (in_subblocks (out i), makes) in
     let at : SpansAt l' (turned t live) = removal_spans image s live i d padding l' pieces lies is laid_is plan in
     let k : LiesInside l'.length d (out i) = lies_inside image s s' live d (out i) lies (stays_tidy s s' is leads) at in
     let read = reads_directory image other s (changed (out i) s.document.subblocks) (map (λ (x : Tile). x.entry) (changed (out i) live.tiles)) d padding pieces wrote plan.directory

@@ -13,10 +13,10 @@ use Rattle.czi_format.specs.Span.{Span}
 use Rattle.czi_format.proofs.Local.{All-append, data_same, tile_own, att_item_own, meta_item_own}
 use Rattle.czi_format.proofs.Readings.{bind_some}
 use Rattle.czi_machine.specs.Change.{changed, kept, omitted, Setting, same, to, set, set_kept, set_omitted}
-use Rattle.czi_machine.specs.Edit.{Edit, DocumentEffect, effect, after}
+use Rattle.czi_machine.specs.Edit.{DocumentEffect, after}
 use Rattle.czi_machine.specs.Formers.{Lain, Return, return_effect, return_items, brought_back, LiesHeld, BringBack, present, undoing}
 use Rattle.czi_machine.specs.Laws.{Leads, LiesLoosely}
-use Rattle.czi_machine.specs.Machine.{after_edit}
+use Rattle.czi_machine.specs.Machine.{after_effect}
 use Rattle.czi_machine.specs.Places.{Next, Placed, edit_next, subblock_need, attachment_need, metadata_need, fresh}
 use Rattle.czi_machine.specs.Sound.{IsTidy}
 use Rattle.czi_machine.specs.State.{Items, State, held, held_by, items_of, item_places, item_spans, spans_of, not_among}
@@ -162,15 +162,15 @@ lies_held image other s s' live t reaches at alike out =
         is_read image metadata_id z meta_item (λ (x : MetaItem). x.segment) m meta_item_own (metadata_read z (in_segment image metadata_id z meta_item) m found) in
         (record { reads = ap (meta_item m.segment) d.0 ∙ r.reads; id_is = r.id_is; place = r.place }, tt)
 
-pub edits_bring_back : (image other : List ℕ) (s s' : State) (live : Live) (c : Edit) (t : Turn) (pieces : List Piece) (returns : List Return) → LiesLoosely image live s → IsTidy s
-    → effect s.document c ≡ Ok (effect_of other t) → after_edit s c ≡ Ok s' → SpansAt s'.layout (turned t live) → Writes image other t live s.layout s'.layout pieces
+pub edits_bring_back : (image other : List ℕ) (s s' : State) (live : Live) (t : Turn) (pieces : List Piece) (returns : List Return) → LiesLoosely image live s → IsTidy s
+    → after_effect s (effect_of other t) ≡ Ok s' → SpansAt s'.layout (turned t live) → Writes image other t live s.layout s'.layout pieces
     → BringBack image (present s) returns s.formers → BringBack other (present s') (take 32 (undoing t live s.layout ∷ returns)) s'.formers
-edits_bring_back image other s s' live c t pieces returns lies is known goes at w back =
-    let leads : Leads s s' = inl (c, goes) in
+edits_bring_back image other s s' live t pieces returns lies is goes at w back =
+    let e : DocumentEffect = effect_of other t in
+    let leads : Leads s s' = inl (e, goes) in
     let ld : Led s s' = led s s' is leads in
     let is' : IsTidy s' = ld.tidy in
-    let e : DocumentEffect = effect_of other t in
-    let made : Made s s' e = edit_makes s s' c e known goes in
+    let made : Made s s' e = edit_makes s s' e goes in
     let pl : Placed = made.at in
     let n : Next = edit_next s e in
     let pp : Placing s n pl = placing s n pl is (edit_is_next s e is) made.there in

@@ -1,5 +1,5 @@
 -- After an edit and after an undo the former documents are brought back still.
-use Rattle.std.proofs.Common.{◌≡◌, ℕ, ◌+◌, ◌≤◌, ◌<◌, List, [], ◌∷◌, map, false, Option, Some, None, Result, Ok, option_map, refl, ap, sym, ◌∙◌, arith, subst, inl, inr}
+use Rattle.std.proofs.Common.{◌≡◌, ℕ, ◌+◌, ◌≤◌, ◌<◌, List, [], ◌∷◌, map, false, Option, Some, None, Ok, option_map, refl, ap, sym, ◌∙◌, arith, subst, inl, inr}
 use Rattle.std.specs.List.{AllByRecursion, list_any}
 use Rattle.std.proofs.lemmas.Bool.{cases_lt}
 use Rattle.czi_format.specs.FirstFault.{with_fault}
@@ -10,10 +10,10 @@ use Rattle.czi_format.specs.Span.{Span, end_of}
 use Rattle.czi_format.proofs.Rules.{on_ok}
 use Rattle.czi_machine.specs.Change.{Act, changed, mapped, Setting, same, to, set, mapped_setting}
 use Rattle.czi_machine.specs.Cover.{between, cover}
-use Rattle.czi_machine.specs.Edit.{Edit, DocumentEffect, Refusal, effect, after}
+use Rattle.czi_machine.specs.Edit.{DocumentEffect, after}
 use Rattle.czi_machine.specs.Formers.{Return, BringBack, present}
 use Rattle.czi_machine.specs.Laws.{LiesLoosely}
-use Rattle.czi_machine.specs.Machine.{after_edit, after_undo, after_undo_of, as_refusal, edited, restored}
+use Rattle.czi_machine.specs.Machine.{after_effect, after_undo, after_undo_of, as_refusal, edited, restored}
 use Rattle.czi_machine.specs.Places.{stays, fresh, Next, Placed, Fitted, fit_each, fit_option, subblock_need, attachment_need, metadata_need, edit_next, undo_next, placed, laid, relaid, staying, items_asked, space_of}
 use Rattle.czi_machine.specs.Sound.{IsTidy}
 use Rattle.czi_machine.specs.State.{Items, Former, State, held, items_of, item_places, item_spans, spans_of, not_among}
@@ -69,20 +69,16 @@ pub record Made (s s' : State) (e : DocumentEffect) : Type 0 where
   pub there : placed s.layout (space_of s) (edit_next s e) ≡ Ok at
   pub whole : edited s (after e s.document) (relaid s.layout (edit_next s e) at) ≡ s'
 
-effect_is : (a b : DocumentEffect) (r : Result DocumentEffect Refusal) → r ≡ Ok a → r ≡ Ok b → a ≡ b
-effect_is a b r p q = cc
-
-pub edit_makes : (s s' : State) (c : Edit) (e : DocumentEffect) → effect s.document c ≡ Ok e → after_edit s c ≡ Ok s' → Made s s' e
-edit_makes s s' c e known goes =
-    on_ok (effect s.document c) _ s' goes λ f f_is more.
-    on_ok (with_fault as_refusal (laid s (edit_next s f))) _ s' more λ l l_is done.
+pub edit_makes : (s s' : State) (f : DocumentEffect) → after_effect s f ≡ Ok s' → Made s s' f
+edit_makes s s' f goes =
+    on_ok (with_fault as_refusal (laid s (edit_next s f))) _ s' goes λ l l_is done.
     on_ok (placed s.layout (space_of s) (edit_next s f)) _ l (no_fault as_refusal (laid s (edit_next s f)) l l_is) λ pl pl_is laid_is.
     let its : relaid s.layout (edit_next s f) pl ≡ l = result_is (relaid s.layout (edit_next s f) pl) l laid_is in
-    subst (Made s s') (effect_is f e (effect s.document c) f_is known) (record {
+    record {
       at = pl;
       there = pl_is;
       whole = ap (edited s (after f s.document)) its ∙ result_is _ s' done;
-    })
+    }
 
 -- The items after it are those before, changed at the same places.
 pub record ChangedLike (t : Turn) (l : Layout) (i : Items) : Type 0 where

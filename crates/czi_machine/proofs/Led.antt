@@ -6,9 +6,9 @@ use Rattle.czi_format.specs.Space.{same_span}
 use Rattle.czi_format.specs.Span.{Span, end_of}
 use Rattle.czi_format.proofs.Rules.{on_ok}
 use Rattle.czi_machine.specs.Cover.{between, cover}
-use Rattle.czi_machine.specs.Edit.{Edit, effect, after}
+use Rattle.czi_machine.specs.Edit.{Edit, DocumentEffect, effect, after}
 use Rattle.czi_machine.specs.Laws.{Leads}
-use Rattle.czi_machine.specs.Machine.{after_edit, after_undo, after_undo_of, as_refusal, edited, restored}
+use Rattle.czi_machine.specs.Machine.{after_effect, after_edit, after_undo, after_undo_of, as_refusal, edited, restored}
 use Rattle.czi_machine.specs.Places.{Next, Placed, edit_next, undo_next, placed, laid, relaid, live_places, space_of}
 use Rattle.czi_machine.specs.Sound.{live_spans, IsTidy, IsSound}
 use Rattle.czi_machine.specs.State.{Former, State, held, spans_of}
@@ -37,10 +37,9 @@ no_fault f (Err y) x e = absurd (cc (e))
 pub result_is : {A E : Type 0} (a b : A) → (let r : Result A E = Ok a in r) ≡ Ok b → a ≡ b
 result_is a b e = cc
 
-pub edit_led : (s s' : State) (c : Edit) → IsTidy s → after_edit s c ≡ Ok s' → Led s s'
-edit_led s s' c is e =
-    on_ok (effect s.document c) _ s' e λ f f_is more.
-    on_ok (with_fault as_refusal (laid s (edit_next s f))) _ s' more λ l l_is done.
+pub effect_led : (s s' : State) (f : DocumentEffect) → IsTidy s → after_effect s f ≡ Ok s' → Led s s'
+effect_led s s' f is e =
+    on_ok (with_fault as_refusal (laid s (edit_next s f))) _ s' e λ l l_is done.
     on_ok (placed s.layout (space_of s) (edit_next s f)) _ l (no_fault as_refusal (laid s (edit_next s f)) l l_is) λ pl pl_is laid_is.
     let n : Next = edit_next s f in
     let its : relaid s.layout n pl ≡ l = result_is (relaid s.layout n pl) l laid_is in
@@ -84,8 +83,11 @@ undo_led s s' is e = on_formers s.formers refl e
           marks = λ p. marked_once s n pl p is nx at;
         })
 
+pub edits_lead : (s s' : State) (c : Edit) → after_edit s c ≡ Ok s' → Leads s s'
+edits_lead s s' c goes = on_ok (effect s.document c) _ s' goes λ e e_is more. inl (e, more)
+
 pub led : (s s' : State) → IsTidy s → Leads s s' → Led s s'
-led s s' is leads = elim leads [ inl c ↦ edit_led s s' c.0 is c.1 | inr u ↦ undo_led s s' is u ]
+led s s' is leads = elim leads [ inl c ↦ effect_led s s' c.0 is c.1 | inr u ↦ undo_led s s' is u ]
 
 pub stays_sound : (s s' : State) → IsSound s → Leads s s' → IsSound s'
 stays_sound s s' is leads = (led s s' (sound_tidy s is) leads).sound is

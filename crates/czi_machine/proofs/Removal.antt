@@ -16,7 +16,7 @@ use Rattle.czi_machine.specs.Cover.{between, cover}
 use Rattle.czi_machine.specs.Data.{directory_data}
 use Rattle.czi_machine.specs.Edit.{remove, effect, in_subblocks, after}
 use Rattle.czi_machine.specs.Laws.{Leads, Lies}
-use Rattle.czi_machine.specs.Machine.{after_edit, edited, as_refusal}
+use Rattle.czi_machine.specs.Machine.{after_effect, after_edit, edited, as_refusal}
 use Rattle.czi_machine.specs.Places.{edit_next, undo_next, laid, new_place, space_of, subblock_need, directory_need, live_places}
 use Rattle.czi_machine.specs.Puts.{StandsWith, HasRoom}
 use Rattle.czi_machine.specs.Removal.{with_directory, PlansDirectory, PlansRemoval, with_directory_at, removal_need, removed_layout, returned_layout}
@@ -236,10 +236,10 @@ pub removes : (image other : List ℕ) (s : State) (live : Live) (dims : List Di
 removes image other s live dims i d padding l' pieces lies is effect_is laid_is plan wrote long =
     let t : Turn = with_directory d (out i) in
     let s' : State = edited s (after (in_subblocks (out i)) s.document) l' in
-    let goes : after_edit s (remove dims) ≡ Ok s' = ap (λ r. r >>= λ e. with_fault as_refusal (laid s (edit_next s e)) >>= λ l. Ok (edited s (after e s.document) l)) effect_is
-    ∙ ap (λ r. with_fault as_refusal r >>= λ l. Ok (edited s (after (in_subblocks (out i)) s.document) l)) laid_is in
+    let makes : after_effect s (in_subblocks (out i)) ≡ Ok s' = ap (λ r. with_fault as_refusal r >>= λ l. Ok (edited s (after (in_subblocks (out i)) s.document) l)) laid_is in
+    let goes : after_edit s (remove dims) ≡ Ok s' = ap (λ r. r >>= after_effect s) effect_is ∙ makes in
     let at : LiesAt l' (turned t live) = removal_lies image s live i d padding l' pieces lies is laid_is plan in
-    let k = lying image other s s' live d (out i) pieces lies is (inl (remove dims, goes)) at in
+    let k = lying image other s s' live d (out i) pieces lies is (inl (in_subblocks (out i), makes)) at in
     let read = reads_directory image other s (changed (out i) s.document.subblocks) (map (λ (x : Tile). x.entry) (changed (out i) live.tiles)) d padding pieces wrote plan.directory
     (k.far d.segment (dirs_among d (out i))) (omega (arith, k.inside d.segment (dirs_among d (out i)), long)) (omega (arith, plan.small, long)) in
     let writes : Writes image other t live s.layout s'.layout pieces = record {
@@ -257,4 +257,4 @@ removes image other s live dims i d padding l' pieces lies is effect_is laid_is 
     } in
     let document_is : s'.document ≡ after (effect_of other t) s.document =
     ap (λ (c : List (Act Subblock)). record s.document { subblocks = changed c s.document.subblocks }) (sym (mapped_out (subblock_of other) i)) in
-    (goes, commanded image other s s' live t pieces lies is (inl (remove dims, goes)) at document_is writes)
+    (goes, commanded image other s s' live t pieces lies is (inl (in_subblocks (out i), makes)) at document_is writes)

@@ -6,9 +6,9 @@ use Rattle.czi_format.specs.Live.{Live, Tile, tile, AttItem, att_item, MetaItem,
 use Rattle.czi_format.specs.Segment.{extent, data_of, subblock_id, attachment_id, metadata_id}
 use Rattle.czi_format.specs.Space.{same_span}
 use Rattle.czi_machine.specs.Change.{Change, changed, brought, inverted, mapped, Setting, set, set_new, mapped_setting, inverted_setting}
-use Rattle.czi_machine.specs.Edit.{Edit, DocumentEffect, effect, after}
+use Rattle.czi_machine.specs.Edit.{DocumentEffect, after}
 use Rattle.czi_machine.specs.Laws.{LiesLoosely}
-use Rattle.czi_machine.specs.Machine.{after_edit, after_undo}
+use Rattle.czi_machine.specs.Machine.{after_effect, after_undo}
 use Rattle.czi_machine.specs.Sound.{IsTidy}
 use Rattle.czi_machine.specs.Turn.{Turn, turned, effect_of, SpansAt}
 use Rattle.czi_machine.specs.Writes.{Writes}
@@ -96,8 +96,8 @@ undoing t live l = record {
 
 -- After an edit was written, what undoes it and what brought back the former documents bring back those of the new state.
 abbrev pub EditsBringBack : Type 0
-EditsBringBack = (image other : List ℕ) (s s' : State) (live : Live) (c : Edit) (t : Turn) (pieces : List Piece) (returns : List Return) → LiesLoosely image live s → IsTidy s
-    → effect s.document c ≡ Ok (effect_of other t) → after_edit s c ≡ Ok s' → SpansAt s'.layout (turned t live) → Writes image other t live s.layout s'.layout pieces
+EditsBringBack = (image other : List ℕ) (s s' : State) (live : Live) (t : Turn) (pieces : List Piece) (returns : List Return) → LiesLoosely image live s → IsTidy s
+    → after_effect s (effect_of other t) ≡ Ok s' → SpansAt s'.layout (turned t live) → Writes image other t live s.layout s'.layout pieces
     → BringBack image (present s) returns s.formers → BringBack other (present s') (take 32 (undoing t live s.layout ∷ returns)) s'.formers
 
 -- and after an undo the others do

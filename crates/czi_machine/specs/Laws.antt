@@ -9,10 +9,10 @@ use Rattle.czi_format.specs.Shows.{Reaches, Shows}
 use Rattle.czi_format.specs.Span.{Span}
 use Rattle.czi_machine.specs.Holes.{holes, SameOutside}
 use Rattle.czi_format.specs.Bytes.{bytes_at}
-use Rattle.czi_machine.specs.Edit.{Edit, remove, effect, in_subblocks, after}
+use Rattle.czi_machine.specs.Edit.{Edit, DocumentEffect, remove, effect, in_subblocks, after}
 use Rattle.czi_format.specs.Entry.{Dim}
 use Rattle.czi_machine.specs.Change.{into, out}
-use Rattle.czi_machine.specs.Machine.{after_edit, after_undo, edited, restored}
+use Rattle.czi_machine.specs.Machine.{after_effect, after_edit, after_undo, edited, restored}
 use Rattle.czi_machine.specs.Places.{edit_next, undo_next, laid}
 use Rattle.czi_machine.specs.Removal.{with_directory, PlansRemoval, before_removal, IsHeldTile, PlansReturn}
 use Rattle.czi_machine.specs.Sound.{IsTidy, IsSound}
@@ -46,9 +46,13 @@ pub record Lies (image : List ℕ) (live : Live) (s : State) : Type 0 where
 abbrev pub OpensSound : Type 0
 OpensSound = (image : List ℕ) (live : Live) (s : State) → Lies image live s → s.formers ≡ [] → IsSound s
 
--- a command leads from one state to another: an edit, or an undo
+-- a command leads from one state to another: what an edit, or edits one after another, do to the document, or an undo
 abbrev pub Leads : State → State → Type 0
-Leads s s' = ((c : Edit) × (after_edit s c ≡ Ok s')) ⊎ (after_undo s ≡ Ok s')
+Leads s s' = ((e : DocumentEffect) × (after_effect s e ≡ Ok s')) ⊎ (after_undo s ≡ Ok s')
+
+-- each edit leads to the state after it
+abbrev pub EditsLead : Type 0
+EditsLead = (s s' : State) (c : Edit) → after_edit s c ≡ Ok s' → Leads s s'
 
 -- and edits and undos keep a state sound
 abbrev pub StaysSound : Type 0
