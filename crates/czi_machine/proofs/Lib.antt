@@ -42,3 +42,4 @@ pub mod Inverse
 pub mod FormersKept
 pub mod UndoneParts
 pub mod EditUndone
+pub mod Composed

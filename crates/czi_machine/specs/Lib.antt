@@ -1,5 +1,6 @@
 pub mod Change
 pub mod Edit
+pub mod Group
 pub mod State
 pub mod Places
 pub mod Table
