@@ -43,3 +43,5 @@ pub mod FormersKept
 pub mod UndoneParts
 pub mod EditUndone
 pub mod Composed
+pub mod Repacked
+pub mod EachStep

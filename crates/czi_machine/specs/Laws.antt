@@ -1,18 +1,19 @@
 -- The laws of steady images and of edits, as statements.
-use Rattle.std.specs.Prelude.{◌≡◌, ◌⊎◌, ℕ, ◌+◌, ◌-◌, ◌≤◌, List, [], ◌∷◌, length, filter, Ok}
+use Rattle.std.specs.Prelude.{◌≡◌, ◌⊎◌, ℕ, ◌+◌, ◌-◌, ◌≤◌, List, [], ◌∷◌, length, filter, Option, Ok}
 use Rattle.std.specs.List.{AllByRecursion}
 use Rattle.czi_format.specs.Document.{Document}
 use Rattle.czi_format.specs.Layout.{Place, Layout, HasLayout, IsSteady, is_free, is_unknown}
 use Rattle.czi_format.specs.Live.{Live, Directory, Tile, segments, document, subblock_of}
 use Rattle.czi_format.specs.Segment.{Segment, extent}
 use Rattle.czi_format.specs.Shows.{Reaches, Shows}
+use Rattle.czi_format.specs.Space.{Full}
 use Rattle.czi_format.specs.Span.{Span}
 use Rattle.czi_machine.specs.Holes.{holes, SameOutside}
 use Rattle.czi_format.specs.Bytes.{bytes_at}
 use Rattle.czi_machine.specs.Edit.{Edit, DocumentEffect, remove, effect, in_subblocks, after}
 use Rattle.czi_format.specs.Entry.{Dim}
 use Rattle.czi_machine.specs.Change.{into, out}
-use Rattle.czi_machine.specs.Machine.{after_effect, after_edit, after_undo, edited, restored}
+use Rattle.czi_machine.specs.Machine.{Command, Step, after_effect, after_edit, after_undo, after_repack, steps, edited, restored}
 use Rattle.czi_machine.specs.Places.{edit_next, undo_next, laid}
 use Rattle.czi_machine.specs.Removal.{with_directory, PlansRemoval, before_removal, IsHeldTile, PlansReturn}
 use Rattle.czi_machine.specs.Sound.{IsTidy, IsSound}
@@ -58,6 +59,14 @@ EditsLead = (s s' : State) (c : Edit) → after_edit s c ≡ Ok s' → Leads s s
 abbrev pub StaysSound : Type 0
 StaysSound = (s s' : State) → IsSound s → Leads s s' → IsSound s'
 
+-- so does a repack
+abbrev pub RepacksSound : Type 0
+RepacksSound = (s : State) → IsSound s → IsSound (after_repack s)
+
+-- and so all states that commands give one after another are sound
+abbrev pub StepsSound : Type 0 → Type 0
+StepsSound Q = (no_move : Layout → Option Full) (s : State) (commands : List (Command Q)) → IsSound s → AllByRecursion (λ (x : Step Q). IsSound x.state) (steps no_move s commands)
+
 -- After a command was written, the image shows the document of the state to which the command leads, has that state's
 -- layout, and is steady.
 abbrev pub Commands : Type 0
@@ -92,6 +101,12 @@ OpensTidy = (image : List ℕ) (s : State) → HasLayout image s.layout → s.fo
 -- and edits and undos keep a state tidy
 abbrev pub StaysTidy : Type 0
 StaysTidy = (s s' : State) → IsTidy s → Leads s s' → IsTidy s'
+
+abbrev pub RepacksTidy : Type 0
+RepacksTidy = (s : State) → IsTidy s → IsTidy (after_repack s)
+
+abbrev pub StepsTidy : Type 0 → Type 0
+StepsTidy Q = (no_move : Layout → Option Full) (s : State) (commands : List (Command Q)) → IsTidy s → AllByRecursion (λ (x : Step Q). IsTidy x.state) (steps no_move s commands)
 
 -- After a command was written into any image, it shows the document of the state to which the command leads, and has that
 -- state's live extents and length.
