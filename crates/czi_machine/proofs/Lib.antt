@@ -45,3 +45,4 @@ pub mod EditUndone
 pub mod Composed
 pub mod Repacked
 pub mod EachStep
+pub mod FromPlan

@@ -148,7 +148,7 @@ lying image other s s' live d c pieces lies is leads at =
       ];
     }
 
-directory_long : length directory_id ≡ 16
+pub directory_long : length directory_id ≡ 16
 unfolding directory_id
 directory_long = refl
 

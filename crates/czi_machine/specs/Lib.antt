@@ -20,3 +20,4 @@ pub mod Puts
 pub mod Removal
 pub mod Formers
 pub mod Laws
+pub mod Planned
