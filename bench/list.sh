@@ -12,8 +12,8 @@ gcc -O2 -o "$folder/list" bench/list.c
 python3 bench/make_tiles.py "$folder/tiles.czi" "$count"
 cat "$folder/tiles.czi" >/dev/null
 for turn in 1 2 3; do
-    /usr/bin/time -f "C        %es %MKB" "$folder/list" "$folder/tiles.czi" >"$folder/c.txt"
-    /usr/bin/time -f "czi_tool %es %MKB" "$tool" "$folder/tiles.czi" list >"$folder/tool.txt"
+    /usr/bin/time -f "C        %es (%Us user, %Ss system) %MKB" "$folder/list" "$folder/tiles.czi" >"$folder/c.txt"
+    /usr/bin/time -f "czi_tool %es (%Us user, %Ss system) %MKB" "$tool" "$folder/tiles.czi" list >"$folder/tool.txt"
 done
 cmp "$folder/c.txt" "$folder/tool.txt"
 echo "the same $(wc -c <"$folder/c.txt") bytes"

@@ -1,6 +1,6 @@
 use crate::{
     AttInfo, Bytes, Dim, Dims, EntryInfo, ItemFault, Key, TextFault, equal_keys, read_dims,
-    write_dims,
+    write_dims, write_name,
 };
 use std::alloc::Global;
 use std::test::Fail;
@@ -50,6 +50,9 @@ fn written_text(rt: HostRuntime) -> Result<(), Fail> {
         text.as_slice(),
         b"%25%1f%ab~-2147483648:2147483647:-1".as_slice()
     );
+    let mut text = vec![in rt.alloc(); b'=']?;
+    write_name(b"Event List\0s", &mut text)?;
+    assert_eq!(rt; text.as_slice(), b"=Event%20List".as_slice());
     Ok(())
 }
 

@@ -54,6 +54,20 @@ fn push_dim(dim: &Dim, out: &mut Vec<u8>) -> Result<(), AllocError>
     Ok(())
 }
 
+/// Appends the text of a name: its bytes up to the first zero byte, as bytes text. A byte outside 0x21 to 0x7E, and `%`, is
+/// `%` and two hexadecimal digits. Where memory runs out `out` stays as it was.
+pub fn write_name(name: &[u8], out: &mut Vec<u8>) -> Result<(), AllocError>
+    ensures ok { OnOk result (out.new.items ≡ out.old.items ++ bytes_text (up_to_zero name.now)) }
+    ensures err { OnErr result (out.new.items ≡ out.old.items) }
+{
+    let start = out.len();
+    let named = push_name(name, out);
+    if named.is_err() {
+        out.truncate(start);
+    }
+    named
+}
+
 /// Appends the bytes up to the first zero byte, as bytes text.
 fn push_name(name: &[u8], out: &mut Vec<u8>) -> Result<(), AllocError>
     ensures ok { OnOk result (out.new.items ≡ out.old.items ++ bytes_text (up_to_zero name.now)) }

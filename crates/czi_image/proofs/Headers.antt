@@ -24,7 +24,7 @@ use Rattle.czi_seg.specs.declared.file_header.HeaderFault.TheVariants.{Short, Ba
 use Rattle.czi_image.specs.Windows.{front_within}
 use Rattle.czi_image.specs.Rules.{first_rules_in, fault_of}
 use Rattle.czi_image.specs.Faults.{Tells, IsNoDevice}
-use Rattle.czi_image.specs.View.{file_header_of}
+use Rattle.czi_image.specs.View.{header_fields_of}
 use Rattle.czi_image.proofs.Windows.{i32_in_window, i64_in_window, front_of_window}
 use Rattle.czi_format.proofs.Local.{part_of_part}
 
@@ -110,12 +110,12 @@ own_segment : (front : List ℕ) (h : FileHeader) (s : Segment) → front_header
 own_segment front h s is here = let same : Some s ≡ Some h.segment = sym here ∙ (front_is front h is).header in cc
 
 header_is : (front : List ℕ) (h : FileHeader) (file : CodeFileHeader) (head : SegHeader) → front_header front ≡ Some h → h.part ≡ pos 0 → head_of file ≡ front_head front
-    → header_at front 0 ≡ Some (header_of 0 head) → h ≡ file_header_of (record { file = file; head = head })
+    → header_at front 0 ≡ Some (header_of 0 head) → h ≡ header_fields_of file head
 header_is front h file head is first says here =
     let fronts = front_is front h is in
     let own : h.segment ≡ header_of 0 head = sym (own_segment front h (header_of 0 head) is here) in
     let part : i32_at front 80 ≡ pos 0 = ap (λ (z : FileHeader). z.part) fronts.fields ∙ first in
-    let fields : header_fields front h.segment ≡ file_header_of (record { file = file; head = head }) = λ i. record {
+    let fields : header_fields front h.segment ≡ header_fields_of file head = λ i. record {
       segment = own i;
       identity = ap (λ (z : FileHead). z.identity) (sym says) i;
       part = part i;
@@ -125,13 +125,17 @@ header_is front h file head is first says here =
     } in
     sym fronts.fields ∙ fields
 
+-- both headers give the same size
+pub same_size : (front : List ℕ) (file : CodeFileHeader) (head : SegHeader) → ReadsHeader front file → header_at front 0 ≡ Some (header_of 0 head) → file.allocated ≡ head.allocated
+same_size front file head reads here = reads.allocated ∙ sym (ap (λ (z : Segment). z.allocated) (own_segment front reads.header (header_of 0 head) reads.stands here))
+
 pub header_passes : (front : List ℕ) (n : ℕ) (file : CodeFileHeader) (head : SegHeader) → ReadsHeader front file → header_at front 0 ≡ Some (header_of 0 head) → 32 + head.allocated ≤ n
-    → file.pending ≡ pos 0 → first_rules_in front n ≡ Ok (file_header_of (record { file = file; head = head }))
+    → file.pending ≡ pos 0 → first_rules_in front n ≡ Ok (header_fields_of file head)
 header_passes front n file head reads here fits settled =
     let h : FileHeader = reads.header in
     let own = own_segment front h (header_of 0 head) reads.stands here in
     let value : i32_at front 100 ≡ pos 0 = sym (ap (λ (z : FileHead). z.pending) reads.head) ∙ settled in
-    let is : h ≡ file_header_of (record { file = file; head = head }) = header_is front h file head reads.stands reads.first reads.head here in
+    let is : h ≡ header_fields_of file head = header_is front h file head reads.stands reads.first reads.head here in
     let passes : fault.◌>>◌ (unless (is_zero h.part) (refusals.multi_part h.part)) (fault.◌>>◌ (unless (is_zero (pos 0)) (refusals.pending (pos 0))) (Ok h)) ≡ Ok h = rw reads.first in
     by_rules front n h (pos 0) reads.stands (omega (arith, fits, ap (λ (z : Segment). z.allocated) own)) value
     ∙ (passes ∙ ap (λ (z : FileHeader). let r : Result FileHeader Refusal = Ok z in r) is)

@@ -5,3 +5,7 @@ pub mod Headers
 pub mod Midway
 pub mod Told
 pub mod Stages
+pub mod LiveItems
+pub mod Marks
+pub mod Indexed
+pub mod Placed

@@ -1,7 +1,8 @@
 -- Between two readings of a list.
 use Rattle.std.proofs.Common.{◌≡◌, ℕ, suc, ◌+◌, ◌-◌, ◌<◌, ◌≤◌, List, [], ◌∷◌, ◌++◌, map, drop, length, get_or, Option, Some, None, Result, Ok, Err, refl, ap, sym, ◌∙◌, arith, append_assoc}
-use Rattle.std.proofs.lemmas.List.{append-nil, length-drop, map_push, drop_more, drop_all}
+use Rattle.std.proofs.lemmas.List.{append-nil, length-drop, length_push, map_push, drop_more, drop_all}
 use Rattle.std.specs.Option.{ForSome}
+use Rattle.std.specs.List.{AllByRecursion}
 use Rattle.czi_rig.specs.declared.rig.Rig.{Ghosts}
 use Rattle.czi_rig.specs.declared.file.File.TheVariants.{Image}
 use Rattle.czi_rig.specs.State.{seen_of}
@@ -23,11 +24,13 @@ after_one done e (Err at) = refl
 pub record Midway {X C : Type 0} (read : List ℕ → Option X) (size : X → ℕ) (view : C → X) (bytes : List ℕ) (count place number at : ℕ) (rest : List ℕ) (done : List C) : Type 0 where
   pub whole : one_after_another read size (λ a. a) count place bytes ≡ after (map view done) (one_after_another read size (λ a. a) (count - number) at rest)
   pub place_is : at + length rest ≡ place + length bytes
+  pub so_many : length done ≡ number
 
 pub midway_begins : {X C : Type 0} (read : List ℕ → Option X) (size : X → ℕ) (view : C → X) (bytes : List ℕ) (count place : ℕ) → Midway read size view bytes count place 0 place bytes []
 midway_begins read size view bytes count place = record {
   whole = after_none _ ∙ ap (λ (k : ℕ). after [] (one_after_another read size (λ a. a) k place bytes)) (let all : count ≡ count - 0 = omega arith in all);
   place_is = refl;
+  so_many = refl;
 }
 
 -- one more
@@ -45,6 +48,7 @@ midway_next {X} {C} {read} {size} {view} {bytes} {count} {place} {number} {at} {
       ∙ (ap (after (map view done)) (step ∙ behind) ∙ (after_one (map view done) (view c) _
       ∙ ap (λ (xs : List X). after xs (one_after_another read size (λ a. a) (count - (number + 1)) (at + len) (drop len rest))) (sym (map_push view done c)))));
   place_is = let behind : length (drop len rest) ≡ length rest - len = length-drop len rest in omega (arith, behind, fits, m.place_is);
+  so_many = length_push done c ∙ ap (λ (n : ℕ). n + 1) m.so_many;
 }
 
 -- all of them
@@ -108,6 +112,13 @@ half_ends {X} {Y} {E} {C} {D} {read} {told} {from} {view} {all} {n} {done} h end
     h.whole ∙ (ap (λ (xs : List C). after (map view done) (each read told (map from xs))) (drop_all n all ends) ∙ ap (λ (ys : List Y). let r : Result (List Y) E = Ok ys in r) (append-nil (map view done)))
 
 -- the same of a list whose items are read over a rig, which is left as it was
-pub record ReadsEach {R X Y E C D : Type 0} (rig : Ghosts R) (first now : R) (read : List ℕ → X → Option Y) (told : X → E) (from : C → X) (view : D → Y) (all : List C) (n : ℕ) (done : List D) : Type 0 where
+pub record ReadsEach {R X Y E C D : Type 0} (rig : Ghosts R) (first now : R) (read : List ℕ → X → Option Y) (told : X → E) (from : C → X) (view : D → Y) (P : D → Type 0) (all : List C) (n : ℕ) (done : List D) : Type 0 where
   pub untouched : Untouched rig first now
+  pub within : AllByRecursion P done
+  pub so_many : length done ≡ n
   pub half : ForSome (seen_of (rig.state first) Image) (λ image. Half (read image) told from view all n done)
+
+-- one more of which this holds
+pub all_push : {X : Type 0} (P : X → Type 0) (xs : List X) (x : X) → AllByRecursion P xs → P x → AllByRecursion P (xs ++ x ∷ [])
+all_push P [] x all px = (px, tt)
+all_push P (y ∷ ys) x all px = (all.0, all_push P ys x all.1 px)

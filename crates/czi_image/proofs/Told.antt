@@ -25,7 +25,7 @@ tells_first r f (TooMany place count) t = err_first r f _ t
 tells_first r f (BadEntry place) t = err_first r f _ t
 tells_first r f (BadSegment place) t = err_first r f _ t
 tells_first r f (BadAttachment place) t = err_first r f _ t
-tells_first r f (Overlap first second) t = t
+tells_first r f (Overlap first second) t = err_first r f _ t
 tells_first r f Memory t = tt
 tells_first r f Device t = tt
 
@@ -88,3 +88,6 @@ err_weaker (Err e) P Q h p = h e p
 pub seen_same : (s t : State) (f : File) (bytes : List ℕ) → SameAll s t → seen_of s f ≡ Some bytes → seen_of t f ≡ Some bytes
 seen_same s t Image bytes same is = ap (option_map (λ (disk : Disk). disk.seen)) same.image ∙ is
 seen_same s t Journal bytes same is = ap (option_map (λ (disk : Disk). disk.seen)) same.journal ∙ is
+
+pub seen_before : (s t : State) (bytes : List ℕ) → SameAll s t → seen_of t Image ≡ Some bytes → seen_of s Image ≡ Some bytes
+seen_before s t bytes same is = ap (option_map (λ (disk : Disk). disk.seen)) (sym same.image) ∙ is

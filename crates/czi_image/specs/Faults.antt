@@ -3,7 +3,8 @@ use Rattle.std.specs.Prelude.{◌≡◌, ℕ, List, Result, Err}
 use Rattle.czi_rig.specs.State.{State}
 use Rattle.czi_rig.specs.Passes.{Rose}
 use Rattle.czi_format.specs.Refusals as refusals
-use Rattle.czi_format.specs.Refusals.{Refusal, reads_but_overlap}
+use Rattle.czi_format.specs.Refusals.{Refusal, reading}
+use Rattle.czi_num.specs.Span.{span_of}
 use Rattle.czi_image.specs.declared.fault.ImageFault.{ImageFault}
 use Rattle.czi_image.specs.declared.fault.ImageFault.TheVariants.{NotCzi, MultiPart, Pending, BadDirectory, TooMany, BadEntry, BadSegment, BadAttachment, Overlap, Memory, Device}
 
@@ -17,13 +18,13 @@ Tells answer (TooMany place count) = answer ≡ Err (refusals.too_many place cou
 Tells answer (BadEntry place) = answer ≡ Err (refusals.bad_entry place)
 Tells answer (BadSegment place) = answer ≡ Err (refusals.bad_segment place)
 Tells answer (BadAttachment place) = answer ≡ Err (refusals.bad_attachment place)
-Tells answer (Overlap first second) = ⊥
+Tells answer (Overlap first second) = answer ≡ Err (refusals.overlap (span_of first) (span_of second))
 Tells answer Memory = Unit {0}
 Tells answer Device = Unit {0}
 
--- the fault tells the first rule that fails, of all but the last
+-- the fault tells the first rule of reading that fails
 abbrev pub Refuses : List ℕ → ImageFault → Type 0
-Refuses image fault = Tells (reads_but_overlap image) fault
+Refuses image fault = Tells (reading image) fault
 
 -- a call fails only where the count of the image's faults rose
 abbrev pub HasRisen : State → State → ImageFault → Type 0

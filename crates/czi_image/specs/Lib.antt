@@ -4,3 +4,9 @@ pub mod Faults
 pub mod Entries
 pub mod Rules
 pub mod Inside
+pub mod Items
+pub mod Spans
+pub mod Props
+pub mod Marked
+pub mod Holds
+pub mod WalkFaults

@@ -5,8 +5,10 @@ use Rattle.czi_format.specs.Live.{FileHeader, Directory, Tile, AttItem, MetaItem
 use Rattle.czi_format.specs.Refusals.{Tiles, Attachments}
 use Rattle.czi_doc.specs.View.{info_of, att_of}
 use Rattle.czi_seg.specs.View.{header_of}
-use Rattle.czi_image.specs.declared.segment.Segment.{Segment as CodeSegment}
-use Rattle.czi_image.specs.declared.header.Header.{Header as CodeHeader}
+use Rattle.czi_seg.specs.declared.file_header.FileHeader.{FileHeader as CodeFileHeader}
+use Rattle.czi_seg.specs.declared.header.SegHeader.{SegHeader}
+use Rattle.czi_image.specs.declared.found.Segment.{Segment as CodeSegment}
+use Rattle.czi_image.specs.declared.found.Header.{Header as CodeHeader}
 use Rattle.czi_image.specs.declared.directory.Directory.{Directory as CodeDirectory}
 use Rattle.czi_image.specs.declared.tiles.Tiles.{Tiles as CodeTiles}
 use Rattle.czi_image.specs.declared.attachments.Attachments.{Attachments as CodeAttachments}
@@ -16,18 +18,21 @@ use Rattle.czi_image.specs.declared.types.AttItem.{AttItem as CodeAttItem}
 use Rattle.czi_image.specs.declared.types.MetaItem.{MetaItem as CodeMetaItem}
 
 abbrev pub segment_of : CodeSegment → Segment
-segment_of s = header_of s.at s.head
+segment_of s = header_of s.span.at s.head
 
 -- a file header of a first part
-abbrev pub file_header_of : CodeHeader → FileHeader
-file_header_of h = record {
-  segment = header_of 0 h.head;
-  identity = h.file.identity;
+abbrev pub header_fields_of : CodeFileHeader → SegHeader → FileHeader
+header_fields_of file head = record {
+  segment = header_of 0 head;
+  identity = file.identity;
   part = pos 0;
-  directory = h.file.directory;
-  metadata = h.file.metadata;
-  attachments = h.file.attachments;
+  directory = file.directory;
+  metadata = file.metadata;
+  attachments = file.attachments;
 }
+
+abbrev pub file_header_of : CodeHeader → FileHeader
+file_header_of h = header_fields_of h.file h.head
 
 abbrev pub directory_of : CodeDirectory → Directory
 directory_of d = record { segment = segment_of d.segment; count = d.count }

@@ -1,7 +1,8 @@
 //! The attachments that the entries of their directory reach.
 
-ghost use Rattle.std.specs.Prelude.{◌≡◌, ◌+◌, ◌^◌, ◌≤◌, pos, map, length, option_map, IfOk, IfErr, IfSome};
+ghost use Rattle.std.specs.Prelude.{◌≡◌, ◌+◌, ◌^◌, ◌≤◌, pos, map, length, vec_len, option_map, IfOk, IfErr, IfSome};
 ghost use Rattle.std.specs.Option.{ForSome};
+ghost use Rattle.std.specs.List.{AllByRecursion};
 ghost use Rattle.czi_rig.specs.declared.file.File.TheVariants.{Image};
 ghost use Rattle.czi_rig.specs.State.{seen_of};
 ghost use Rattle.czi_rig.specs.Passes.{HasCause};
@@ -13,7 +14,7 @@ ghost use Rattle.czi_format.specs.Refusals.{attachment_rules};
 ghost use Rattle.czi_att.specs.View.{a1_of};
 ghost use Rattle.czi_doc.specs.View.{att_of};
 ghost use Rattle.czi_image.specs.Faults.{HasRisen, Tells};
-ghost use Rattle.czi_image.specs.Inside.{HoldsEntries};
+ghost use Rattle.czi_image.specs.Inside.{HoldsEntries, AttItemEnds, AttachmentsWithin};
 ghost use Rattle.czi_image.specs.Rules.{attached_rules, item_rules};
 ghost use Rattle.czi_image.specs.View.{att_item_of, attachments_of, directory_of};
 ghost use Rattle.czi_image.specs.Windows.{in_window};
@@ -44,7 +45,8 @@ pub(crate) struct Attachments {
 fn attachment_in(front: &[u8; 36], info: AttInfo, at: u64, size: u64) -> Option<AttItem>
     requires inside { at + 32 ≤ size }
     requires small { size ≤ 2 ^ 62 }
-    ensures { option_map att_item_of result ≡ in_window front.now attachment_id at size 4 (att_item (record { info = att_of info; position = pos at })) }
+    ensures found { option_map att_item_of result ≡ in_window front.now attachment_id at size 4 (att_item (record { info = att_of info; position = pos at })) }
+    ensures inside { IfSome result (AttItemEnds size) }
 {
     let head = sound_in(front, SegId::Attachment, at, size)?;
     let count = read_count(&read_bytes(front, 32))?;
@@ -74,6 +76,7 @@ fn read_attachment<R: Rig>(
     requires size { ForSome (seen_of (R.state rig.old) Image) (λ image. size ≡ length image) }
     requires small { size ≤ 2 ^ 62 }
     ensures found { IfOk result (λ o. ForSome (seen_of (R.state rig.old) Image) (λ image. option_map att_item_of o ≡ attachment_at image (a1_of entry))) }
+    ensures inside { IfOk result (λ o. IfSome o (AttItemEnds size)) }
     ensures untouched { Untouched R.Rig rig.old rig.new }
     ensures cause { HasCause Image (R.state rig.old) (R.state rig.new) result }
 {
@@ -94,6 +97,8 @@ fn read_each<R: Rig>(
     requires size { ForSome (seen_of (R.state rig.old) Image) (λ image. size ≡ length image) }
     requires small { size ≤ 2 ^ 62 }
     ensures found { IfOk result (λ items. ForSome (seen_of (R.state rig.old) Image) (λ image. item_rules image (map a1_of entries.items) ≡ Ok (map att_item_of items.items))) }
+    ensures inside { IfOk result (λ items. AllByRecursion (AttItemEnds size) items.items) }
+    ensures len { IfOk result (λ items. vec_len items ≡ vec_len entries) }
     ensures refused { IfErr result (λ fault. ForSome (seen_of (R.state rig.old) Image) (λ image. Tells (item_rules image (map a1_of entries.items)) fault)) }
     ensures untouched { Untouched R.Rig rig.old rig.new }
     ensures cause { IfErr result (HasRisen (R.state rig.old) (R.state rig.new)) }
@@ -120,13 +125,16 @@ fn read_attached<R: Rig>(
     requires small { size ≤ 2 ^ 62 }
     requires within { HoldsEntries size directory.now }
     ensures found { IfOk result (λ items. ForSome (seen_of (R.state rig.old) Image) (λ image. attached_rules image (Some (directory_of directory.now)) ≡ Ok (map att_item_of items.items))) }
+    ensures inside { IfOk result (λ items. AllByRecursion (AttItemEnds size) items.items) }
+    ensures len { IfOk result (λ items. vec_len items ≡ directory.now.count) }
     ensures refused { IfErr result (λ fault. ForSome (seen_of (R.state rig.old) Image) (λ image. Tells (attached_rules image (Some (directory_of directory.now))) fault)) }
     ensures untouched { Untouched R.Rig rig.old rig.new }
     ensures cause { IfErr result (HasRisen (R.state rig.old) (R.state rig.new)) }
 {
     let bytes = read_a1_entries(alloc, rig, directory)?;
-    let place = directory.segment.at + 288;
+    let place = directory.segment.span.at + 288;
     let entries = take_a1_entries(alloc, directory.count, &bytes, place)?;
+    drop(bytes);
     read_each(alloc, rig, entries, size)
 }
 
@@ -141,6 +149,7 @@ pub(crate) fn read_attachments<R: Rig>(
     requires size { ForSome (seen_of (R.state rig.old) Image) (λ image. size ≡ length image) }
     requires small { size ≤ 2 ^ 62 }
     ensures found { IfOk result (λ a. ForSome (seen_of (R.state rig.old) Image) (λ image. attachment_rules image position ≡ Ok (attachments_of a))) }
+    ensures inside { IfOk result (AttachmentsWithin size) }
     ensures refused { IfErr result (λ fault. ForSome (seen_of (R.state rig.old) Image) (λ image. Tells (attachment_rules image position) fault)) }
     ensures untouched { Untouched R.Rig rig.old rig.new }
     ensures cause { IfErr result (HasRisen (R.state rig.old) (R.state rig.new)) }

@@ -13,8 +13,9 @@ ghost use Rattle.czi_image.specs.Inside.{HoldsEntries, IsWithin};
 ghost use Rattle.czi_image.specs.View.{directory_of};
 ghost use Rattle.czi_image.specs.Windows.{in_window};
 
-use crate::segment::{Segment, read_count, read_front, sound_in};
-use czi_num::read_bytes;
+use crate::found::Segment;
+use crate::segment::{read_count, read_front, sound_in};
+use czi_num::{Span, read_bytes};
 use czi_rig::{Failed, Rig};
 use czi_seg::SegId;
 
@@ -29,6 +30,7 @@ pub(crate) struct Directory {
 #[tactic(auto, unfolding(crate::specs::Windows::in_window, czi_format::specs::Live::directory, czi_format::specs::Contents::entry_count))]
 fn directory_in(front: &[u8; 36], at: u64, size: u64) -> Option<Directory>
     requires inside { at + 32 ≤ size }
+    requires small { size ≤ 2 ^ 62 }
     ensures found { option_map directory_of result ≡ in_window front.now directory_id at size 4 directory }
     ensures inside { IfSome result (IsWithin size) }
 {
@@ -37,8 +39,12 @@ fn directory_in(front: &[u8; 36], at: u64, size: u64) -> Option<Directory>
     if head.allocated < 128 {
         return None;
     }
+    let span = Span {
+        at,
+        len: 32 + head.allocated,
+    };
     Some(Directory {
-        segment: Segment { at, head },
+        segment: Segment { span, head },
         count,
     })
 }
@@ -47,6 +53,7 @@ fn directory_in(front: &[u8; 36], at: u64, size: u64) -> Option<Directory>
 #[tactic(auto, unfolding(crate::specs::Windows::in_window, czi_format::specs::Live::attachment_directory, czi_format::specs::Contents::entry_count))]
 fn attachment_directory_in(front: &[u8; 36], at: u64, size: u64) -> Option<Directory>
     requires inside { at + 32 ≤ size }
+    requires small { size ≤ 2 ^ 62 }
     ensures found { option_map directory_of result ≡ in_window front.now attdir_id at size 4 attachment_directory }
     ensures inside { IfSome result (HoldsEntries size) }
 {
@@ -55,8 +62,12 @@ fn attachment_directory_in(front: &[u8; 36], at: u64, size: u64) -> Option<Direc
     if head.allocated < 256 + 128 * u64::from(count) {
         return None;
     }
+    let span = Span {
+        at,
+        len: 32 + head.allocated,
+    };
     Some(Directory {
-        segment: Segment { at, head },
+        segment: Segment { span, head },
         count,
     })
 }

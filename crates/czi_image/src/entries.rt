@@ -52,7 +52,7 @@ pub(crate) fn read_entries<R: Rig>(
     requires inside { ForSome (seen_of (R.state rig.old) File.Image) (λ image. IsWithin (length image) directory.now) }
     requires within { IsWithin (2 ^ 62) directory.now }
     ensures bytes { IfOk result (λ bytes. ForSome (seen_of (R.state rig.old) File.Image) (λ image.
-        bytes.items ≡ bytes_at image (directory.now.segment.at + 160) (min (directory.now.segment.head.allocated - 128) (832 * directory.now.count)))) }
+        bytes.items ≡ bytes_at image (directory.now.segment.span.at + 160) (min (directory.now.segment.head.allocated - 128) (832 * directory.now.count)))) }
     ensures len { IfOk result (λ bytes. vec_len bytes ≤ directory.now.segment.head.allocated - 128) }
     ensures only { IfErr result IsOnlyCalls }
     ensures untouched { Untouched R.Rig rig.old rig.new }
@@ -60,7 +60,7 @@ pub(crate) fn read_entries<R: Rig>(
 {
     let reach = LONGEST_ENTRY * u64::from(directory.count);
     let len = (directory.segment.head.allocated - 128).min(reach);
-    read_piece(alloc, rig, directory.segment.at + 160, len)
+    read_piece(alloc, rig, directory.segment.span.at + 160, len)
 }
 
 /// The entry at the front of the bytes and its length, or none where none stands there.
@@ -83,6 +83,7 @@ pub(crate) fn take_entries(
 ) -> Result<Vec<Entry>, ImageFault>
     requires { place + length bytes.now ≤ 2 ^ 62 }
     ensures found { IfOk result (λ es. entry_rules count place bytes.now ≡ Ok (map entry_of es.items)) }
+    ensures len { IfOk result (λ es. vec_len es ≡ count) }
     ensures refused { IfErr result (Tells (entry_rules count place bytes.now)) }
     ensures own { IfErr result IsNoDevice }
 {
@@ -112,7 +113,7 @@ pub(crate) fn read_a1_entries<R: Rig>(
     requires inside { ForSome (seen_of (R.state rig.old) File.Image) (λ image. HoldsEntries (length image) directory.now) }
     requires within { HoldsEntries (2 ^ 62) directory.now }
     ensures bytes { IfOk result (λ bytes. ForSome (seen_of (R.state rig.old) File.Image) (λ image.
-        bytes.items ≡ bytes_at image (directory.now.segment.at + 288) (128 * directory.now.count))) }
+        bytes.items ≡ bytes_at image (directory.now.segment.span.at + 288) (128 * directory.now.count))) }
     ensures len { IfOk result (λ bytes. vec_len bytes ≡ 128 * directory.now.count) }
     ensures only { IfErr result IsOnlyCalls }
     ensures untouched { Untouched R.Rig rig.old rig.new }
@@ -121,7 +122,7 @@ pub(crate) fn read_a1_entries<R: Rig>(
     read_piece(
         alloc,
         rig,
-        directory.segment.at + 288,
+        directory.segment.span.at + 288,
         128 * u64::from(directory.count),
     )
 }
@@ -146,6 +147,7 @@ pub(crate) fn take_a1_entries(
     requires small { place + length bytes.now ≤ 2 ^ 62 }
     requires whole { length bytes.now ≡ 128 * count }
     ensures found { IfOk result (λ es. a1_rules count place bytes.now ≡ Ok (map a1_of es.items)) }
+    ensures len { IfOk result (λ es. vec_len es ≡ count) }
     ensures refused { IfErr result (Tells (a1_rules count place bytes.now)) }
     ensures own { IfErr result IsNoDevice }
 {

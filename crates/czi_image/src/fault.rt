@@ -2,8 +2,10 @@
 
 ghost use Rattle.std.specs.Prelude.{◌≡◌};
 ghost use Rattle.czi_image.specs.declared.fault.ImageFault.TheVariants.{Memory};
+ghost use Rattle.czi_image.specs.WalkFaults.{walk_fault};
 
 use czi_num::Span;
+use czi_walk::WalkFault;
 use std::alloc::{AllocError, AllocFailed};
 
 /// The first rule of reading that fails, in the order of the variants; or a failed call, or want of memory.
@@ -34,6 +36,17 @@ pub enum ImageFault {
     Memory,
     /// A call on the image's file failed.
     Device,
+}
+
+impl From<WalkFault> for ImageFault {
+    ghost from_gives = { λ walk fault. fault ≡ walk_fault walk };
+
+    fn from(fault: WalkFault) -> ImageFault {
+        match fault {
+            WalkFault::Memory => ImageFault::Memory,
+            WalkFault::Device => ImageFault::Device,
+        }
+    }
 }
 
 impl From<AllocError> for ImageFault {

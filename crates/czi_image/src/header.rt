@@ -1,6 +1,6 @@
 //! The file header.
 
-ghost use Rattle.std.specs.Prelude.{◌≡◌, ◌≤◌, length, IfOk, IfErr};
+ghost use Rattle.std.specs.Prelude.{◌≡◌, ◌^◌, ◌≤◌, length, IfOk, IfErr};
 ghost use Rattle.std.specs.Option.{ForSome};
 ghost use Rattle.czi_rig.specs.State.{seen_of};
 ghost use Rattle.czi_rig.specs.Quiet.{Untouched};
@@ -10,16 +10,10 @@ ghost use Rattle.czi_image.specs.Rules.{first_rules_in, fault_of};
 ghost use Rattle.czi_image.specs.View.{file_header_of};
 
 use crate::fault::ImageFault;
-use czi_num::read_bytes;
+use crate::found::Header;
+use czi_num::{Span, read_bytes};
 use czi_rig::{File, Rig};
-use czi_seg::{FileHeader, HeaderFault, SegHeader, read_file_header, read_header};
-
-/// The file header of a first part, and the header of its segment.
-#[derive(Clone, Copy)]
-pub(crate) struct Header {
-    pub(crate) file: FileHeader,
-    pub(crate) head: SegHeader,
-}
+use czi_seg::{HeaderFault, read_file_header, read_header};
 
 /// What a file header's fault says of the image.
 fn fault_of(fault: HeaderFault) -> ImageFault
@@ -35,8 +29,9 @@ fn fault_of(fault: HeaderFault) -> ImageFault
 
 /// The header in the first 112 bytes of an image of this length.
 fn header_in(front: &[u8; 112], size: u64) -> Result<Header, ImageFault>
-    requires { 112 ≤ size }
+    requires { (112 ≤ size) × (size ≤ 2 ^ 62) }
     ensures found { IfOk result (λ h. first_rules_in front.now size ≡ Ok (file_header_of h)) }
+    ensures inside { IfOk result (λ h. h.span.len ≤ size) }
     ensures refused { IfErr result (Tells (first_rules_in front.now size)) }
     ensures own { IfErr result IsNoDevice }
 {
@@ -51,7 +46,11 @@ fn header_in(front: &[u8; 112], size: u64) -> Result<Header, ImageFault>
             if file.pending != 0 {
                 return Err(ImageFault::Pending(file.pending));
             }
-            Ok(Header { file, head })
+            let span = Span {
+                at: 0,
+                len: 32 + head.allocated,
+            };
+            Ok(Header { file, head, span })
         }
         Err(fault) => Err(fault_of(fault)),
     }
@@ -59,8 +58,10 @@ fn header_in(front: &[u8; 112], size: u64) -> Result<Header, ImageFault>
 
 /// Reads the header of an image of this length: it stands at 0, FilePart is 0 and so is UpdatePending.
 pub(crate) fn read_header_at_front<R: Rig>(rig: &mut R, size: u64) -> Result<Header, ImageFault>
-    requires { ForSome (seen_of (R.state rig.old) File.Image) (λ image. size ≡ length image) }
+    requires size { ForSome (seen_of (R.state rig.old) File.Image) (λ image. size ≡ length image) }
+    requires small { size ≤ 2 ^ 62 }
     ensures found { IfOk result (λ h. ForSome (seen_of (R.state rig.old) File.Image) (λ image. first_rules image ≡ Ok (file_header_of h))) }
+    ensures inside { IfOk result (λ h. h.span.len ≤ size) }
     ensures refused { IfErr result (λ fault. ForSome (seen_of (R.state rig.old) File.Image) (λ image. Tells (first_rules image) fault)) }
     ensures untouched { Untouched R.Rig rig.old rig.new }
     ensures cause { IfErr result (HasRisen (R.state rig.old) (R.state rig.new)) }

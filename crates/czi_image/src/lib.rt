@@ -5,8 +5,13 @@ mod attachments;
 mod directory;
 mod entries;
 mod fault;
+mod found;
 mod header;
+mod index;
+mod items;
+mod marking;
 mod metadata;
+mod opening;
 mod reading;
 mod segment;
 #[cfg(test)]
@@ -15,4 +20,6 @@ mod tiles;
 mod types;
 
 pub use fault::ImageFault;
-pub use types::{AttItem, DirItem, Index, MetaItem, Tile};
+pub use index::Index;
+pub use opening::read_index;
+pub use types::{AttItem, DirItem, MetaItem, Tile};

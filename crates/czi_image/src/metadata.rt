@@ -1,6 +1,6 @@
 //! The metadata.
 
-ghost use Rattle.std.specs.Prelude.{◌≡◌, ◌+◌, ◌^◌, ◌≤◌, length, option_map, IfOk, IfErr};
+ghost use Rattle.std.specs.Prelude.{◌≡◌, ◌+◌, ◌^◌, ◌≤◌, length, option_map, IfOk, IfErr, IfSome};
 ghost use Rattle.std.specs.Option.{ForSome};
 ghost use Rattle.czi_rig.specs.declared.file.File.TheVariants.{Image};
 ghost use Rattle.czi_rig.specs.State.{seen_of};
@@ -9,6 +9,7 @@ ghost use Rattle.czi_rig.specs.Quiet.{Untouched};
 ghost use Rattle.czi_format.specs.Segment.{in_segment, metadata_id};
 ghost use Rattle.czi_format.specs.Live.{meta_item};
 ghost use Rattle.czi_format.specs.Refusals.{metadata_rule};
+ghost use Rattle.czi_image.specs.Inside.{MetaItemEnds};
 ghost use Rattle.czi_image.specs.Faults.{HasRisen, Tells};
 ghost use Rattle.czi_image.specs.View.{meta_item_of};
 ghost use Rattle.czi_image.specs.Windows.{in_window};
@@ -26,7 +27,8 @@ use czi_seg::SegId;
 fn metadata_in(front: &[u8; 40], at: u64, size: u64) -> Option<MetaItem>
     requires inside { at + 32 ≤ size }
     requires small { size ≤ 2 ^ 62 }
-    ensures { option_map meta_item_of result ≡ in_window front.now metadata_id at size 8 meta_item }
+    ensures found { option_map meta_item_of result ≡ in_window front.now metadata_id at size 8 meta_item }
+    ensures inside { IfSome result (MetaItemEnds size) }
 {
     let head = sound_in(front, SegId::Metadata, at, size)?;
     let body = read_meta_head(&read_bytes(front, 32))?;
@@ -53,6 +55,7 @@ fn metadata_at<R: Rig>(rig: &mut R, position: i64, size: u64) -> Result<Option<M
     requires size { ForSome (seen_of (R.state rig.old) Image) (λ image. size ≡ length image) }
     requires small { size ≤ 2 ^ 62 }
     ensures found { IfOk result (λ o. ForSome (seen_of (R.state rig.old) Image) (λ image. option_map meta_item_of o ≡ in_segment image metadata_id position meta_item)) }
+    ensures inside { IfOk result (λ o. IfSome o (MetaItemEnds size)) }
     ensures untouched { Untouched R.Rig rig.old rig.new }
     ensures cause { HasCause Image (R.state rig.old) (R.state rig.new) result }
 {
@@ -71,6 +74,7 @@ pub(crate) fn read_metadata<R: Rig>(
     requires size { ForSome (seen_of (R.state rig.old) Image) (λ image. size ≡ length image) }
     requires small { size ≤ 2 ^ 62 }
     ensures found { IfOk result (λ o. ForSome (seen_of (R.state rig.old) Image) (λ image. metadata_rule image position ≡ Ok (option_map meta_item_of o))) }
+    ensures inside { IfOk result (λ o. IfSome o (MetaItemEnds size)) }
     ensures refused { IfErr result (λ fault. ForSome (seen_of (R.state rig.old) Image) (λ image. Tells (metadata_rule image position) fault)) }
     ensures untouched { Untouched R.Rig rig.old rig.new }
     ensures cause { IfErr result (HasRisen (R.state rig.old) (R.state rig.new)) }

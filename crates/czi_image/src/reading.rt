@@ -6,13 +6,15 @@ ghost use Rattle.czi_rig.specs.declared.file.File.TheVariants.{Image};
 ghost use Rattle.czi_rig.specs.State.{seen_of};
 ghost use Rattle.czi_rig.specs.Quiet.{Untouched};
 ghost use Rattle.czi_format.specs.Refusals.{reads_but_overlap};
-ghost use Rattle.czi_image.specs.Faults.{HasRisen, Refuses};
+ghost use Rattle.czi_image.specs.Faults.{HasRisen, Tells};
+ghost use Rattle.czi_image.specs.Inside.{LiveWithin};
 ghost use Rattle.czi_image.specs.View.{live_of};
 
 use crate::attachments::read_attachments;
 use crate::directory::Directory;
 use crate::fault::ImageFault;
-use crate::header::{Header, read_header_at_front};
+use crate::found::Header;
+use crate::header::read_header_at_front;
 use crate::metadata::read_metadata;
 use crate::tiles::read_tiles;
 use crate::types::{AttItem, MetaItem, Tile};
@@ -36,7 +38,8 @@ pub(crate) fn read_live<R: Rig>(alloc: Global, rig: &mut R, size: u64) -> Result
     requires size { ForSome (seen_of (R.state rig.old) Image) (λ image. size ≡ length image) }
     requires small { size ≤ 2 ^ 62 }
     ensures found { IfOk result (λ live. ForSome (seen_of (R.state rig.old) Image) (λ image. reads_but_overlap image ≡ Ok (live_of live))) }
-    ensures refused { IfErr result (λ fault. ForSome (seen_of (R.state rig.old) Image) (λ image. Refuses image fault)) }
+    ensures inside { IfOk result (LiveWithin size) }
+    ensures refused { IfErr result (λ fault. ForSome (seen_of (R.state rig.old) Image) (λ image. Tells (reads_but_overlap image) fault)) }
     ensures untouched { Untouched R.Rig rig.old rig.new }
     ensures cause { IfErr result (HasRisen (R.state rig.old) (R.state rig.new)) }
 {

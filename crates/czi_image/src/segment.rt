@@ -14,13 +14,6 @@ use czi_num::{read_bytes, read_i32};
 use czi_rig::{Failed, File, Rig};
 use czi_seg::{SegHeader, SegId, read_header};
 
-/// A segment, and its place in the image.
-#[derive(Clone, Copy)]
-pub(crate) struct Segment {
-    pub(crate) at: u64,
-    pub(crate) head: SegHeader,
-}
-
 /// The front of a segment, and its place in the image.
 #[derive(Clone, Copy)]
 pub(crate) struct Front<const N: usize> {

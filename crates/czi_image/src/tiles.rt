@@ -1,7 +1,8 @@
 //! The subblocks that the directory's entries reach.
 
-ghost use Rattle.std.specs.Prelude.{◌≡◌, ◌+◌, ◌^◌, ◌≤◌, pos, map, length, option_map, IfOk, IfErr, IfSome};
+ghost use Rattle.std.specs.Prelude.{◌≡◌, ◌+◌, ◌^◌, ◌≤◌, pos, map, length, vec_len, option_map, IfOk, IfErr, IfSome};
 ghost use Rattle.std.specs.Option.{ForSome};
+ghost use Rattle.std.specs.List.{AllByRecursion};
 ghost use Rattle.czi_rig.specs.declared.file.File.TheVariants.{Image};
 ghost use Rattle.czi_rig.specs.State.{seen_of};
 ghost use Rattle.czi_rig.specs.Passes.{HasCause};
@@ -13,7 +14,7 @@ ghost use Rattle.czi_format.specs.Refusals.{tile_rules};
 ghost use Rattle.czi_doc.specs.View.{info_of};
 ghost use Rattle.czi_dv.specs.View.{entry_of};
 ghost use Rattle.czi_image.specs.Faults.{HasRisen, Tells};
-ghost use Rattle.czi_image.specs.Inside.{IsWithin};
+ghost use Rattle.czi_image.specs.Inside.{IsWithin, TileEnds, TilesWithin};
 ghost use Rattle.czi_image.specs.Rules.{listed_rules, subblock_rules};
 ghost use Rattle.czi_image.specs.View.{directory_of, tile_of, tiles_of};
 ghost use Rattle.czi_image.specs.Windows.{in_window};
@@ -46,7 +47,8 @@ pub(crate) struct Tiles {
 fn tile_in(front: &[u8; 80], info: EntryInfo, at: u64, size: u64) -> Option<Tile>
     requires inside { at + 32 ≤ size }
     requires small { size ≤ 2 ^ 62 }
-    ensures { option_map tile_of result ≡ in_window front.now subblock_id at size 48 (tile (record { info = info_of info; position = pos at })) }
+    ensures found { option_map tile_of result ≡ in_window front.now subblock_id at size 48 (tile (record { info = info_of info; position = pos at })) }
+    ensures inside { IfSome result (TileEnds size) }
 {
     let head = sound_in(front, SegId::Subblock, at, size)?;
     let body = read_sub_head(&read_bytes(front, 32))?;
@@ -77,6 +79,7 @@ fn read_tile<R: Rig>(rig: &mut R, entry: Entry, size: u64) -> Result<Option<Tile
     requires size { ForSome (seen_of (R.state rig.old) Image) (λ image. size ≡ length image) }
     requires small { size ≤ 2 ^ 62 }
     ensures found { IfOk result (λ o. ForSome (seen_of (R.state rig.old) Image) (λ image. option_map tile_of o ≡ subblock_at image (entry_of entry))) }
+    ensures inside { IfOk result (λ o. IfSome o (TileEnds size)) }
     ensures untouched { Untouched R.Rig rig.old rig.new }
     ensures cause { HasCause Image (R.state rig.old) (R.state rig.new) result }
 {
@@ -96,6 +99,8 @@ fn read_each<R: Rig>(
     requires size { ForSome (seen_of (R.state rig.old) Image) (λ image. size ≡ length image) }
     requires small { size ≤ 2 ^ 62 }
     ensures found { IfOk result (λ tiles. ForSome (seen_of (R.state rig.old) Image) (λ image. subblock_rules image (map entry_of entries.items) ≡ Ok (map tile_of tiles.items))) }
+    ensures inside { IfOk result (λ tiles. AllByRecursion (TileEnds size) tiles.items) }
+    ensures len { IfOk result (λ tiles. vec_len tiles ≡ vec_len entries) }
     ensures refused { IfErr result (λ fault. ForSome (seen_of (R.state rig.old) Image) (λ image. Tells (subblock_rules image (map entry_of entries.items)) fault)) }
     ensures untouched { Untouched R.Rig rig.old rig.new }
     ensures cause { IfErr result (HasRisen (R.state rig.old) (R.state rig.new)) }
@@ -123,13 +128,16 @@ fn read_listed<R: Rig>(
     requires small { size ≤ 2 ^ 62 }
     requires within { IsWithin size directory.now }
     ensures found { IfOk result (λ tiles. ForSome (seen_of (R.state rig.old) Image) (λ image. listed_rules image (Some (directory_of directory.now)) ≡ Ok (map tile_of tiles.items))) }
+    ensures inside { IfOk result (λ tiles. AllByRecursion (TileEnds size) tiles.items) }
+    ensures len { IfOk result (λ tiles. vec_len tiles ≡ directory.now.count) }
     ensures refused { IfErr result (λ fault. ForSome (seen_of (R.state rig.old) Image) (λ image. Tells (listed_rules image (Some (directory_of directory.now))) fault)) }
     ensures untouched { Untouched R.Rig rig.old rig.new }
     ensures cause { IfErr result (HasRisen (R.state rig.old) (R.state rig.new)) }
 {
     let bytes = read_entries(alloc, rig, directory)?;
-    let place = directory.segment.at + 160;
+    let place = directory.segment.span.at + 160;
     let entries = take_entries(alloc, directory.count, &bytes, place)?;
+    drop(bytes);
     read_each(alloc, rig, entries, size)
 }
 
@@ -143,6 +151,7 @@ pub(crate) fn read_tiles<R: Rig>(
     requires size { ForSome (seen_of (R.state rig.old) Image) (λ image. size ≡ length image) }
     requires small { size ≤ 2 ^ 62 }
     ensures found { IfOk result (λ t. ForSome (seen_of (R.state rig.old) Image) (λ image. tile_rules image position ≡ Ok (tiles_of t))) }
+    ensures inside { IfOk result (TilesWithin size) }
     ensures refused { IfErr result (λ fault. ForSome (seen_of (R.state rig.old) Image) (λ image. Tells (tile_rules image position) fault)) }
     ensures untouched { Untouched R.Rig rig.old rig.new }
     ensures cause { IfErr result (HasRisen (R.state rig.old) (R.state rig.new)) }

@@ -4,7 +4,7 @@ ghost use Rattle.std.specs.Prelude.{◌≡◌, ◌+◌, ◌^◌, ◌≤◌};
 
 use czi_doc::{AttInfo, EntryInfo};
 use czi_num::Span;
-use czi_seg::{FileHeader, SegHeader};
+use czi_seg::SegHeader;
 
 /// A live subblock. Its contents are the metadata, the pixels and the attachment, one behind the other.
 #[derive(Debug, Drop)]
@@ -75,31 +75,4 @@ pub struct DirItem {
     /// Whether the walk stands on its segment.
     pub walked: bool,
     pub ghost ends: { span.at + span.len ≤ 2 ^ 62 },
-}
-
-/// All that an image holds, and where it lies.
-#[derive(Debug, Drop)]
-pub struct Index {
-    /// The file header.
-    pub header: FileHeader,
-    /// The image's length, in bytes.
-    pub length: u64,
-    /// The directory of subblocks, if there is one.
-    pub directory: Option<DirItem>,
-    /// The subblocks, in the order of the directory.
-    pub tiles: Vec<Tile>,
-    /// The directory of attachments, if there is one.
-    pub attdir: Option<DirItem>,
-    /// The attachments, in the order of their directory.
-    pub attachments: Vec<AttItem>,
-    /// The metadata, if there is any.
-    pub metadata: Option<MetaItem>,
-    /// The extents of `DELETED` segments, in order of place, that edits may write over.
-    pub extents: Vec<Span>,
-    /// How many segments of the walk are neither live nor `DELETED`.
-    pub unknown: u64,
-    /// Where the walk ends.
-    pub walk_end: u64,
-    pub ghost small: { length ≤ 2 ^ 62 },
-    pub ghost walked_within: { walk_end ≤ length },
 }

@@ -5,11 +5,11 @@ use Rattle.czi_rig.specs.State.{State}
 use Rattle.czi_top.specs.declared.stop.Stop.{Stop}
 use Rattle.czi_top.specs.declared.stop.Stop.TheVariants.{Image, Journal, Output, Memory}
 use Rattle.czi_top.specs.Run.{Ends, IsStatus, Says}
-use Rattle.czi_top.specs.Reply.{StopsListing, StopsSaying, code_of}
+use Rattle.czi_top.specs.Reply.{StopsCommand, StopsSaying, code_of}
 
--- a run that listed the image, or stopped
+-- a run that did its command, or stopped
 pub ends_so : (ended : Result ℕ Stop) (text : List ℕ) (wanted : ℕ) (old new : State) → IfOk ended (λ s. (s ≡ 0) ⊎ (s ≡ 2)) → IfOk ended (λ s. (s ≡ wanted) × Says text old new)
-    → IfErr ended (StopsListing text old new) → Ends text wanted old new (code_of ended)
+    → IfErr ended (StopsCommand text old new) → Ends text wanted old new (code_of ended)
 ends_so (Ok s) text wanted old new (inl zero_is) answered stopped = record { answered = λ small. answered; cut_short = λ six. absurd (cc); silent = λ which. ⊎_elim (λ e. absurd (omega arith)) (λ more. ⊎_elim (λ e. absurd (omega arith)) (λ e. absurd (omega arith)) more) which }
 ends_so (Ok s) text wanted old new (inr two_is) answered stopped = record { answered = λ small. answered; cut_short = λ six. absurd (cc); silent = λ which. ⊎_elim (λ e. absurd (omega arith)) (λ more. ⊎_elim (λ e. absurd (omega arith)) (λ e. absurd (omega arith)) more) which }
 ends_so (Err Image) text wanted old new status answered stopped = record { answered = λ small. absurd (omega arith); cut_short = λ six. absurd (cc); silent = λ which. stopped }

@@ -1,6 +1,3 @@
-pub mod Windows
-pub mod Entries
-pub mod Midway
-pub mod Listed
-pub mod Looked
 pub mod Ending
+pub mod Refused
+pub mod Opened

@@ -1,13 +1,8 @@
 pub mod Words
-pub mod Listing
-pub mod View
-pub mod Windows
-pub mod Found
+pub mod Opening
 pub mod Text
-pub mod Inside
-pub mod Entries
-pub mod Tiles
+pub mod View
+pub mod Refused
 pub mod Causes
-pub mod Answers
 pub mod Run
 pub mod Reply

@@ -1,20 +1,21 @@
 -- How a run ends.
-use Rattle.std.specs.Prelude.{◌≡◌, ◌⊎◌, ℕ, ◌<◌, ◌≤◌, List, ◌++◌, length, take, Bool, true, false, option_map, Result, Ok, Err}
+use Rattle.std.specs.Prelude.{◌≡◌, ◌⊎◌, ℕ, ◌<◌, ◌≤◌, List, ◌++◌, length, take, Option, Some, None, option_map, Result, Ok, Err}
 use Rattle.czi_rig.specs.State.{State}
 use Rattle.czi_rig.specs.Passes.{Rose}
-use Rattle.czi_format.specs.Entry.{Entry}
-use Rattle.czi_top.specs.Listing.{Refusal, listing}
+use Rattle.czi_format.specs.Live.{Live}
+use Rattle.czi_top.specs.Words.{Command}
+use Rattle.czi_top.specs.Opening.{Cause}
 use Rattle.czi_top.specs.Text.{reply, usage}
 
--- the status that goes with what there is to list
-abbrev pub status_of : Result (List Entry) Refusal → ℕ
-status_of (Ok es) = 0
-status_of (Err refusal) = 2
+-- the status that goes with what a command finds
+abbrev pub status_of : Result Live Cause → ℕ
+status_of (Ok live) = 0
+status_of (Err cause) = 2
 
--- what these words say over an image and a journal: the reply of `list`, or the usage line
-abbrev pub said_by : Bool → (image journal : List ℕ) → List ℕ
-said_by true image journal = reply (listing image journal)
-said_by false image journal = usage
+-- what is said over an image and a journal: the reply to the command, or the usage line where there is none
+abbrev pub said_by : Option Command → (image journal : List ℕ) → List ℕ
+said_by (Some command) image journal = reply command image journal
+said_by None image journal = usage
 
 -- this was said, and nothing else
 abbrev pub Says : List ℕ → State → State → Type 0

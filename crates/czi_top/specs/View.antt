@@ -1,20 +1,28 @@
 -- What the program's types stand for.
-use Rattle.czi_format.specs.Segment.{Segment}
-use Rattle.czi_format.specs.Live.{Directory}
-use Rattle.czi_top.specs.declared.segment.Segment.{Segment as CodeSegment}
-use Rattle.czi_top.specs.declared.directory.Directory.{Directory as CodeDirectory}
-use Rattle.czi_top.specs.declared.refusal.Refusal.{Refusal as CodeRefusal}
-use Rattle.czi_top.specs.declared.refusal.Refusal.TheVariants.{NotCzi, BadDirectory, Later, BadEntry}
-use Rattle.czi_top.specs.Listing.{Refusal, not_czi, bad_directory, later, bad_entry}
+use Rattle.std.specs.Prelude.{Option, Some, None}
+use Rattle.czi_format.specs.Refusals as refusals
+use Rattle.czi_format.specs.Refusals.{Refusal}
+use Rattle.czi_num.specs.Span.{span_of}
+use Rattle.czi_image.specs.declared.fault.ImageFault.{ImageFault}
+use Rattle.czi_image.specs.declared.fault.ImageFault.TheVariants.{NotCzi, MultiPart, Pending, BadDirectory, TooMany, BadEntry, BadSegment, BadAttachment, Overlap, Memory, Device}
+use Rattle.czi_top.specs.declared.words.Command.{Command as CodeCommand}
+use Rattle.czi_top.specs.declared.words.Command.TheVariants.{List, Info}
+use Rattle.czi_top.specs.Words.{Command, list, info}
 
-abbrev pub segment_view : CodeSegment → Segment
-segment_view s = record { at = s.at; id = s.id; allocated = s.allocated; used = s.used }
+abbrev pub command_view : CodeCommand → Command
+command_view List = list
+command_view Info = info
 
-abbrev pub directory_view : CodeDirectory → Directory
-directory_view d = record { segment = segment_view d.segment; count = d.count }
-
-abbrev pub refusal_view : CodeRefusal → Refusal
-refusal_view NotCzi = not_czi
-refusal_view (BadDirectory place) = bad_directory place
-refusal_view Later = later
-refusal_view (BadEntry place) = bad_entry place
+-- the rule that refuses; none where a call failed or memory was wanting
+abbrev pub refusal_of : ImageFault → Option Refusal
+refusal_of NotCzi = Some refusals.not_czi
+refusal_of (MultiPart part) = Some (refusals.multi_part part)
+refusal_of (Pending value) = Some (refusals.pending value)
+refusal_of (BadDirectory place) = Some (refusals.bad_directory place)
+refusal_of (TooMany place count) = Some (refusals.too_many place count)
+refusal_of (BadEntry place) = Some (refusals.bad_entry place)
+refusal_of (BadSegment place) = Some (refusals.bad_segment place)
+refusal_of (BadAttachment place) = Some (refusals.bad_attachment place)
+refusal_of (Overlap first second) = Some (refusals.overlap (span_of first) (span_of second))
+refusal_of Memory = None
+refusal_of Device = None

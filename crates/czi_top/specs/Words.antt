@@ -1,5 +1,10 @@
 -- The words of the command line.
-use Rattle.std.specs.Prelude.{ℕ, List, [], ◌∷◌, Bool, true, false, not, ◌&&◌, ◌==◌, codes, bytes_eq}
+use Rattle.std.specs.Prelude.{ℕ, List, [], ◌∷◌, Bool, true, false, not, ◌&&◌, ◌==◌, Option, Some, None, codes, bytes_eq, if◌then◌else◌}
+
+-- what can be asked of an image
+pub data Command : Type 0 where
+  list : Command
+  info : Command
 
 -- doesn't begin with a dash
 abbrev pub is_plain : List ℕ → Bool
@@ -11,9 +16,16 @@ abbrev pub is_blank : List ℕ → Bool
 is_blank [] = true
 is_blank (b ∷ rest) = false
 
--- The words are a command: a file, which isn't empty, and `list`. Neither begins with a dash.
-abbrev pub is_list : List (List ℕ) → Bool
-is_list [] = false
-is_list (file ∷ []) = false
-is_list (file ∷ command ∷ []) = not (is_blank file) && is_plain file && bytes_eq command (codes "list")
-is_list (file ∷ command ∷ more ∷ rest) = false
+-- the command of this name
+abbrev pub named : List ℕ → Option Command
+named word =
+    if bytes_eq word (codes "list") then Some list
+    else if bytes_eq word (codes "info") then Some info
+    else None
+
+-- The command that the words ask for: a file, which isn't empty and doesn't begin with a dash, and the name of a command.
+abbrev pub command_of : List (List ℕ) → Option Command
+command_of [] = None
+command_of (file ∷ []) = None
+command_of (file ∷ word ∷ []) = if not (is_blank file) && is_plain file then named word else None
+command_of (file ∷ word ∷ more ∷ rest) = None

@@ -1,38 +1,64 @@
-// Why an image is not listed.
-ghost use Rattle.std.specs.Prelude.{◌≡◌, IfOk};
+// Why an image is refused.
+ghost use Rattle.std.specs.Prelude.{◌≡◌, ◌++◌, [], IfOk, IfErr, OnOk};
+ghost use Rattle.czi_num.specs.Span.{span_of};
+ghost use Rattle.czi_format.specs.Refusals.{overlap, too_many};
+ghost use Rattle.czi_top.specs.Refused.{AddsLine, IsStopped};
+ghost use Rattle.czi_top.specs.Text.{refusal_text};
 
-use crate::text::push_line;
+use crate::stop::Stop;
+use crate::text::{push_line, push_number, push_place, push_span};
+use czi_image::ImageFault;
+use czi_num::Span;
 use std::alloc::{AllocError, Global};
 
-/// The first rule of reading that fails.
-#[derive(Clone, Copy, Debug, PartialEq, Eq)]
-pub(crate) enum Refusal {
-    /// No file header of a CZI file stands at 0.
-    NotCzi,
-    /// No sound directory stands at the file header's DirectoryPosition.
-    BadDirectory(i64),
-    /// A journal, a second part, a pending update or more than 2^20 entries: not built yet.
-    Later,
-    /// The bytes at this place are no `DV` entry.
-    BadEntry(i64),
+/// Appends the line of a directory with too many entries.
+#[tactic(auto, unfolding(crate::specs::Text::refusal_text))]
+fn push_too_many(text: &mut Vec<u8>, place: i64, count: u64) -> Result<(), AllocError>
+    ensures { OnOk result (text.new.items ≡ text.old.items ++ refusal_text (too_many place count)) }
+{
+    push_place(text, b"refused many ", place)?;
+    push_number(text, b" ", count)?;
+    text.extend_from_slice(b"\n")?;
+    Ok(())
 }
 
-impl Refusal {
-    ghost use Rattle.czi_top.specs.Text.{refusal_text};
-    ghost use Rattle.czi_top.specs.View.{refusal_view};
+/// Appends the line of two live segments that overlap.
+#[tactic(auto, unfolding(crate::specs::Text::refusal_text))]
+fn push_overlap(text: &mut Vec<u8>, first: &Span, second: &Span) -> Result<(), AllocError>
+    ensures { OnOk result (text.new.items ≡ text.old.items ++ refusal_text (overlap (span_of first.now) (span_of second.now))) }
+{
+    push_span(text, b"refused overlap ", first)?;
+    push_span(text, b" ", second)?;
+    text.extend_from_slice(b"\n")
+}
 
-    /// The line that says it.
-    #[tactic(auto, unfolding(crate::specs::Text::refusal_text))]
-    pub(crate) fn text(self, alloc: Global) -> Result<Vec<u8>, AllocError>
-        ensures { IfOk result (λ text. text.items ≡ refusal_text (refusal_view self)) }
-    {
-        let mut text = Vec::new(alloc);
-        match self {
-            Refusal::NotCzi => text.extend_from_slice(b"refused notczi\n")?,
-            Refusal::BadDirectory(place) => push_line(&mut text, b"refused directory ", place)?,
-            Refusal::Later => text.extend_from_slice(b"refused later\n")?,
-            Refusal::BadEntry(place) => push_line(&mut text, b"refused entry ", place)?,
-        }
-        Ok(text)
+/// Appends the line of the rule that refuses the image. A failed call and want of memory are no rules: they stop the run.
+#[tactic(auto, unfolding(crate::specs::Text::refusal_text))]
+fn push_refusal(text: &mut Vec<u8>, fault: &ImageFault) -> Result<(), Stop>
+    ensures said { OnOk result (AddsLine fault.now text.old.items text.new.items) }
+    ensures stopped { IfErr result (IsStopped fault.now) }
+{
+    match *fault {
+        ImageFault::NotCzi => Ok(text.extend_from_slice(b"refused notczi\n")?),
+        ImageFault::MultiPart(part) => Ok(push_line(text, b"refused multipart ", i64::from(part))?),
+        ImageFault::Pending(value) => Ok(push_line(text, b"refused pending ", i64::from(value))?),
+        ImageFault::BadDirectory(place) => Ok(push_line(text, b"refused directory ", place)?),
+        ImageFault::TooMany(place, count) => Ok(push_too_many(text, place, count)?),
+        ImageFault::BadEntry(place) => Ok(push_line(text, b"refused entry ", place)?),
+        ImageFault::BadSegment(place) => Ok(push_line(text, b"refused segment ", place)?),
+        ImageFault::BadAttachment(place) => Ok(push_line(text, b"refused attachment ", place)?),
+        ImageFault::Overlap(first, second) => Ok(push_overlap(text, &first, &second)?),
+        ImageFault::Memory => Err(Stop::Memory),
+        ImageFault::Device => Err(Stop::Image),
     }
+}
+
+/// The line that says which rule refuses the image, and where.
+pub(crate) fn refusal_text(alloc: Global, fault: &ImageFault) -> Result<Vec<u8>, Stop>
+    ensures said { IfOk result (λ text. AddsLine fault.now [] text.items) }
+    ensures stopped { IfErr result (IsStopped fault.now) }
+{
+    let mut text = Vec::new(alloc);
+    push_refusal(&mut text, fault)?;
+    Ok(text)
 }

@@ -1,6 +1,16 @@
 // The words of the command line.
-ghost use Rattle.std.specs.Prelude.{◌≡◌, map, string_bytes};
-ghost use Rattle.czi_top.specs.Words.{is_list, is_plain, is_blank};
+ghost use Rattle.std.specs.Prelude.{◌≡◌, map, option_map, string_bytes};
+ghost use Rattle.czi_top.specs.View.{command_view};
+ghost use Rattle.czi_top.specs.Words.{command_of, is_plain, named};
+
+/// What can be asked of an image.
+#[derive(Clone, Copy, Debug, PartialEq, Eq)]
+pub(crate) enum Command {
+    /// The subblocks.
+    List,
+    /// All that the image holds, and where it lies.
+    Info,
+}
 
 /// Doesn't begin with a dash.
 fn is_plain(word: &str) -> bool
@@ -12,14 +22,31 @@ fn is_plain(word: &str) -> bool
     }
 }
 
-/// Whether the words are a file and `list`: the file isn't empty, and neither word begins with a dash.
-pub(crate) fn is_list(words: &[String]) -> bool
-    ensures { result ≡ is_list (map (λ s. string_bytes s) words.now) }
+/// The command of this name.
+fn named(word: &str) -> Option<Command>
+    ensures { option_map command_view result ≡ named word.now }
+{
+    if word == "list" {
+        Some(Command::List)
+    } else if word == "info" {
+        Some(Command::Info)
+    } else {
+        None
+    }
+}
+
+/// The command that the words ask for: a file, which isn't empty and doesn't begin with a dash, and the name of a command.
+pub(crate) fn command_of(words: &[String]) -> Option<Command>
+    ensures { option_map command_view result ≡ command_of (map (λ s. string_bytes s) words.now) }
 {
     match words {
-        [file, command] => {
-            !file.is_empty() && is_plain(file.as_str()) && command.as_str() == "list"
+        [file, word] => {
+            if !file.is_empty() && is_plain(file.as_str()) {
+                named(word.as_str())
+            } else {
+                None
+            }
         }
-        _ => false,
+        _ => None,
     }
 }

@@ -19,6 +19,6 @@ returns-in-Some-clause-found g c = λ image is.
     let place : to_z w64 (of_z w64 c.args.entry.1) ≡ c.args.entry.1 = search rules in
     let front = (rw c.in-Some.is at c.in_ok-read_front.ensures.found) image is in
     read_shown att_item_of c.attachment_in.result image attachment_id c.in-Some.front.bytes 288 36 c.args.size c.in-Some.front.at (to_z w64 (of_z w64 c.args.entry.1))
-    (att_item_front (record { info = att_of c.args.entry.0; position = pos c.in-Some.front.at })) (omega arith) refl (c.requires.size image is) front c.attachment_in.ensures
+    (att_item_front (record { info = att_of c.args.entry.0; position = pos c.in-Some.front.at })) (omega arith) refl (c.requires.size image is) front c.attachment_in.ensures.found
     ∙ (ap (λ (z : ℤ). in_segment image attachment_id (to_z w64 (of_z w64 c.args.entry.1)) (att_item (record { info = att_of c.args.entry.0; position = z }))) (sym front.place)
     ∙ ap (λ (z : ℤ). in_segment image attachment_id z (att_item (record { info = att_of c.args.entry.0; position = z }))) place)

@@ -1,4 +1,4 @@
-use Rattle.std.proofs.Common.{◌≡◌, ◌∙◌, ap, sym, arith, rules, Err, Result, List, ℤ, to_z, of_z, w64}
+use Rattle.std.proofs.Common.{◌≡◌, ◌+◌, ℕ, ◌∙◌, ap, sym, arith, rules, Err, Result, List, ℤ, to_z, of_z, w64}
 use Rattle.std.proofs.lemmas.List.{length_push}
 use Rattle.std.proofs.lemmas.Iterator.Adapters.{YieldsList-from_vec}
 use Rattle.std.proofs.lemmas.Iterator.Consumers.{YieldsList-turn, YieldsList-end}
@@ -6,8 +6,9 @@ use Rattle.czi_rig.specs.declared.file.File.TheVariants.{Image}
 use Rattle.czi_rig.proofs.Quiet.{untouched_then}
 use Rattle.czi_format.specs.Live.{AttItem}
 use Rattle.czi_format.specs.Refusals.{Refusal, bad_attachment}
+use Rattle.czi_image.specs.Inside.{AttItemEnds}
 use Rattle.czi_image.specs.Rules.{item_rules}
-use Rattle.czi_image.proofs.Midway.{half_next, half_stops, half_ends}
+use Rattle.czi_image.proofs.Midway.{half_next, half_stops, half_ends, all_push}
 use Rattle.czi_image.proofs.Told.{seen_same}
 use Rattle.czi_image.proofs.attachments.read_each.Goals as goal
 
@@ -27,6 +28,10 @@ loop-entry-preserved g c =
     let t = YieldsList-turn (YieldsList-from_vec {s = c.into_iter-entry-iterator.result} c.args.entries.items it.0 (it.1 ∙ c.args.entries.ok.0)) c.loop-entry.yielded c.loop-entry.entry-iterator c.loop-entry.yielded_by c.next.result c.next.new.self c.in-Some.entry c.in-Some.is c.next.ensures.steps in
     record {
       untouched = untouched_then g.R.Rig c.loop-entry.invariant.untouched c.read_attachment.ensures.untouched;
+      within =
+          let ends : AttItemEnds c.args.size c.in-Ok-Some.item = rw (c.in-Ok-Some.field-0-is, c.in-Ok-Some.item-is) at c.in-Ok-Some.ensures.inside in
+          rw ((c.in_ok-push-in-Ok-Some.ensures {u = tt}).items) (all_push (AttItemEnds c.args.size) _ c.in-Ok-Some.item c.loop-entry.invariant.within ends);
+      so_many = rw (length_push, (c.in_ok-push-in-Ok-Some.ensures {u = tt}).items) (length_push _ _ ∙ ap (λ (n : ℕ). n + 1) c.loop-entry.invariant.so_many);
       half = λ image is.
           let some = (rw (c.in-Ok-Some.field-0-is, c.in-Ok-Some.item-is) at c.in-Ok-Some.ensures.found) image (seen_same _ _ Image image c.loop-entry.invariant.untouched.same is) in
           rw (length_push, (c.in_ok-push-in-Ok-Some.ensures {u = tt}).items) (half_next c.in-Some.entry c.in-Ok-Some.item (c.loop-entry.invariant.half image is) t.0 t.1 (sym some));

@@ -16,5 +16,5 @@ pub returns-in-Some-clause-found : goal.returns-in-Some-clause-found
 returns-in-Some-clause-found g c = λ image is.
     let place : to_z w64 (of_z w64 c.args.position) ≡ c.args.position = search rules in
     read_shown meta_item_of c.metadata_in.result image metadata_id c.in-Some.front.bytes 288 40 c.args.size c.in-Some.front.at (to_z w64 (of_z w64 c.args.position)) meta_item_front (omega arith) refl (c.requires.size image is)
-    ((rw c.in-Some.is at c.in_ok-read_front.ensures.found) image is) c.metadata_in.ensures
+    ((rw c.in-Some.is at c.in_ok-read_front.ensures.found) image is) c.metadata_in.ensures.found
     ∙ ap (λ (z : ℤ). in_segment image metadata_id z meta_item) place

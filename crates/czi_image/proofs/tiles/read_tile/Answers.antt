@@ -19,6 +19,6 @@ returns-in-Some-clause-found g c = λ image is.
     let place : to_z w64 (of_z w64 c.args.entry.position) ≡ c.args.entry.position = search rules in
     let front = (rw c.in-Some.is at c.in_ok-read_front.ensures.found) image is in
     read_shown tile_of c.tile_in.result image subblock_id c.in-Some.front.bytes 288 80 c.args.size c.in-Some.front.at (to_z w64 (of_z w64 c.args.entry.position))
-    (tile_front (record { info = info_of c.args.entry.info; position = pos c.in-Some.front.at })) (omega arith) refl (c.requires.size image is) front c.tile_in.ensures
+    (tile_front (record { info = info_of c.args.entry.info; position = pos c.in-Some.front.at })) (omega arith) refl (c.requires.size image is) front c.tile_in.ensures.found
     ∙ (ap (λ (z : ℤ). in_segment image subblock_id (to_z w64 (of_z w64 c.args.entry.position)) (tile (record { info = info_of c.args.entry.info; position = z }))) (sym front.place)
     ∙ ap (λ (z : ℤ). in_segment image subblock_id z (tile (record { info = info_of c.args.entry.info; position = z }))) place)

@@ -1,0 +1,44 @@
+//! The index of an image.
+
+ghost use Rattle.std.specs.Prelude.{◌≤◌, ◌^◌, map, vec_len};
+ghost use Rattle.std.specs.List.{AllByRecursion};
+ghost use Rattle.czi_format.specs.Span.{AreDisjoint, end_of};
+ghost use Rattle.czi_num.specs.Span.{span_of};
+ghost use Rattle.czi_image.specs.Props.{disjoint_prop, free_prop, inside_prop};
+ghost use Rattle.czi_image.specs.Spans.{AreFree, live_spans};
+
+use crate::types::{AttItem, DirItem, MetaItem, Tile};
+use czi_num::Span;
+use czi_seg::FileHeader;
+
+/// All that an image holds, and where it lies. No two of the live segments meet, and none meets one of `extents`.
+#[derive(Debug, Drop)]
+pub struct Index {
+    /// The file header.
+    pub header: FileHeader,
+    /// The image's length, in bytes.
+    pub length: u64,
+    /// The directory of subblocks, if there is one.
+    pub directory: Option<DirItem>,
+    /// The subblocks, in the order of the directory.
+    pub tiles: Vec<Tile>,
+    /// The directory of attachments, if there is one.
+    pub attdir: Option<DirItem>,
+    /// The attachments, in the order of their directory.
+    pub attachments: Vec<AttItem>,
+    /// The metadata, if there is any.
+    pub metadata: Option<MetaItem>,
+    /// The extents of `DELETED` segments, in order of place, that edits may write over.
+    pub extents: Vec<Span>,
+    /// How many segments of the walk are neither live nor `DELETED`.
+    pub unknown: u64,
+    /// Where the walk ends.
+    pub walk_end: u64,
+    pub ghost small: { length ≤ 2 ^ 62 },
+    pub ghost walked_within: { walk_end ≤ length },
+    pub ghost inside: { AllByRecursion (λ s. end_of s ≤ length) (live_spans header directory tiles.items attdir attachments.items metadata) } by { inside_prop length (live_spans header directory tiles.items attdir attachments.items metadata) },
+    pub ghost disjoint: { AreDisjoint (live_spans header directory tiles.items attdir attachments.items metadata) } by { disjoint_prop (live_spans header directory tiles.items attdir attachments.items metadata) },
+    pub ghost free: { AreFree length (live_spans header directory tiles.items attdir attachments.items metadata) (map span_of extents.items) } by { free_prop length (live_spans header directory tiles.items attdir attachments.items metadata) (map span_of extents.items) },
+    pub ghost few_tiles: { vec_len tiles ≤ 2 ^ 20 },
+    pub ghost few_attachments: { vec_len attachments ≤ 2 ^ 12 },
+}

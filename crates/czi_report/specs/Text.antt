@@ -1,0 +1,76 @@
+-- The texts of `list` and `info`: each line ends with a line feed.
+use Rattle.std.specs.Prelude.{ℕ, ◌+◌, List, [], ◌∷◌, ◌++◌, length, codes, Option, Some, None}
+use Rattle.std.specs.Fmt.{decimal, signed_decimal}
+use Rattle.uuid.specs.Text.{hyphenated_text, lower}
+use Rattle.czi_format.specs.Bytes.{bytes_at, stored_order}
+use Rattle.czi_format.specs.Span.{Span}
+use Rattle.czi_format.specs.Segment.{extent}
+use Rattle.czi_format.specs.Live.{FileHeader, Tile, AttItem, MetaItem, Live}
+use Rattle.czi_format.specs.Text.{bytes_text, up_to_zero, dims_text}
+use Rattle.czi_image.specs.Holds.{extent_of}
+
+abbrev pub line_feed : List ℕ
+line_feed = 10 ∷ []
+
+-- a place, and how many bytes lie there
+unfoldable pub span_text : Span → List ℕ
+span_text s = decimal s.at ++ (codes " " ++ decimal s.len)
+
+-- a line of a word and a number
+unfoldable pub number_line : List ℕ → ℕ → List ℕ
+number_line word n = word ++ (decimal n ++ line_feed)
+
+-- one subblock in `list`, by its number
+unfoldable pub tile_line : ℕ → Tile → List ℕ
+tile_line i t = codes "tile " ++ (decimal i ++ (codes " " ++ (decimal t.segment.at ++ (codes " pixel=" ++ (signed_decimal t.entry.info.pixel
+    ++ (codes " comp=" ++ (signed_decimal t.entry.info.compression ++ (codes " dims=" ++ (dims_text t.entry.info.dims ++ line_feed)))))))))
+
+-- a line for each, numbered from i on
+abbrev pub lines : {X : Type 0} → (ℕ → X → List ℕ) → ℕ → List X → List ℕ
+lines line i [] = []
+lines line i (x ∷ xs) = line i x ++ lines line (i + 1) xs
+
+-- how many items there are, behind a word, and a line for each
+unfoldable pub items_text : {X : Type 0} → List ℕ → (ℕ → X → List ℕ) → List X → List ℕ
+items_text word line items = number_line word (length items) ++ lines line 0 items
+
+-- `list`: the subblocks
+abbrev pub list_text : Live → List ℕ
+list_text live = items_text (codes "tiles ") tile_line live.tiles
+
+-- the FileGuid: it stands at 32 of the identity
+unfoldable pub guid_line : FileHeader → List ℕ
+guid_line header = codes "guid " ++ (hyphenated_text lower (stored_order (bytes_at header.identity 32 16)) ++ line_feed)
+
+-- where a directory lies, or none
+unfoldable pub directory_line : List ℕ → Option Span → List ℕ
+directory_line word None = word ++ (codes "none" ++ line_feed)
+directory_line word (Some s) = word ++ (span_text s ++ line_feed)
+
+-- one subblock in `info`
+unfoldable pub tile_info_line : ℕ → Tile → List ℕ
+tile_info_line i t = codes "tile " ++ (decimal i ++ (codes " " ++ (span_text (extent t.segment) ++ (codes " meta=" ++ (decimal t.head.meta
+    ++ (codes " data=" ++ (decimal t.head.pixels ++ (codes " att=" ++ (decimal t.head.tail ++ line_feed)))))))))
+
+-- one attachment
+unfoldable pub attachment_line : ℕ → AttItem → List ℕ
+attachment_line i a = codes "attachment " ++ (decimal i ++ (codes " " ++ (span_text (extent a.segment)
+    ++ (codes " guid=" ++ (hyphenated_text lower (stored_order a.entry.info.guid)
+    ++ (codes " type=" ++ (bytes_text (up_to_zero a.entry.info.kind)
+    ++ (codes " name=" ++ (bytes_text (up_to_zero a.entry.info.name)
+    ++ (codes " data=" ++ (decimal a.size ++ line_feed)))))))))))
+
+-- the metadata
+unfoldable pub metadata_line : Option MetaItem → List ℕ
+metadata_line None = codes "metadata none" ++ line_feed
+metadata_line (Some m) = codes "metadata " ++ (span_text (extent m.segment) ++ (codes " xml=" ++ (decimal m.head.xml ++ (codes " att=" ++ (decimal m.head.tail ++ line_feed)))))
+
+-- `info` of an image of n bytes: its length, its GUID, where both directories lie, each subblock, each attachment, the metadata
+unfoldable pub info_text : ℕ → Live → List ℕ
+info_text n live = number_line (codes "length ") n
+    ++ (guid_line live.header
+    ++ (directory_line (codes "directory ") (extent_of live.directory)
+    ++ (items_text (codes "tiles ") tile_info_line live.tiles
+    ++ (directory_line (codes "attdir ") (extent_of live.attdir)
+    ++ (items_text (codes "attachments ") attachment_line live.attachments
+    ++ metadata_line live.metadata)))))
