@@ -7,3 +7,4 @@ pub mod Grammar
 pub mod Faults
 pub mod Reading
 pub mod Found
+pub mod Course

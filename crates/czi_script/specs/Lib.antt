@@ -2,3 +2,4 @@ pub mod Script
 pub mod View
 pub mod Reader
 pub mod Pieces
+pub mod Course
