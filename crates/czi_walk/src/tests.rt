@@ -102,6 +102,7 @@ impl<'a> Row<'a> {
 fn the_walk_goes_from_end_to_end_or_to_the_next_multiple_of_32(
     rt: HostRuntime,
 ) -> Result<(), Fail> {
+    let first = [(0, FILE, 512), (544, DIRECTORY, 128)];
     let steady = [(0, FILE, 512), (544, DIRECTORY, 160), (736, DELETED, 32)];
     let gap = [(0, FILE, 500), (544, DIRECTORY, 160)];
     let close = [(0, FILE, 500), (532, FOREIGN, 0), (564, DIRECTORY, 4)];
@@ -113,6 +114,7 @@ fn the_walk_goes_from_end_to_end_or_to_the_next_multiple_of_32(
     let negative = [(0, FILE, 512), (544, DIRECTORY, 1 << 63)];
     let late = [(32, FILE, 512)];
     for row in [
+        Row::new(704, &first, &[0, 544], 704, (2, 0)),
         Row::new(800, &steady, &[0, 544, 736], 800, (3, 0)),
         Row::new(840, &steady, &[0, 544, 736], 800, (4, 1)),
         Row::new(799, &steady, &[0, 544], 736, (3, 1)),
