@@ -46,3 +46,4 @@ pub mod Composed
 pub mod Repacked
 pub mod EachStep
 pub mod FromPlan
+pub mod Follow

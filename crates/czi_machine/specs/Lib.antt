@@ -21,3 +21,4 @@ pub mod Removal
 pub mod Formers
 pub mod Laws
 pub mod Planned
+pub mod Fits
