@@ -81,13 +81,13 @@ same_return image other newer r lies alike =
     let two = All-append (λ p. q p ≡ true → P p) i.attachments (option_to_list i.metadata) one.1 in
     record {
       tiles = on_all _ (λ (y : Lain Tile). q (tile_place y) ≡ true → P (tile_place y)) (λ (y : Lain Tile). data_of other y.item.segment ≡ data_of image y.item.segment)
-          (λ y l f. same_data image other y.item.segment (f (ap not l.3))) (brought r.tiles) lies.tiles
+          (λ y l f. same_data image other y.item.segment (f (ap not l.4))) (brought r.tiles) lies.tiles
           (mapped_brought tile_place (λ p. q p ≡ true → P p) r.tiles (All-brought (λ p. q p ≡ true → P p) (mapped tile_place r.tiles) newer.subblocks one.0));
       attachments = on_all _ (λ (y : Lain AttItem). q (attachment_place y) ≡ true → P (attachment_place y)) (λ (y : Lain AttItem). data_of other y.item.segment ≡ data_of image y.item.segment)
-          (λ y l f. same_data image other y.item.segment (f (ap not l.3))) (brought r.attachments) lies.attachments
+          (λ y l f. same_data image other y.item.segment (f (ap not l.4))) (brought r.attachments) lies.attachments
           (mapped_brought attachment_place (λ p. q p ≡ true → P p) r.attachments (All-brought (λ p. q p ≡ true → P p) (mapped attachment_place r.attachments) newer.attachments two.0));
       metadata = on_all _ (λ (y : Lain MetaItem). q (metadata_place y) ≡ true → P (metadata_place y)) (λ (y : Lain MetaItem). data_of other y.item.segment ≡ data_of image y.item.segment)
-          (λ y l f. same_data image other y.item.segment (f (ap not l.2))) (option_to_list (set_new r.metadata)) lies.metadata
+          (λ y l f. same_data image other y.item.segment (f (ap not l.3))) (option_to_list (set_new r.metadata)) lies.metadata
           (set_brought metadata_place (λ p. q p ≡ true → P p) r.metadata newer.metadata two.1);
     }
 
@@ -104,9 +104,9 @@ same_brought_back image other newer r alike =
 
 same_held : (image other : List ℕ) (newer : Items) (r : Return) → LiesHeld image newer r → SameReturn image other r → LiesHeld other newer r
 same_held image other newer r lies alike = record {
-  tiles = on_all _ (λ (y : Lain Tile). data_of other y.item.segment ≡ data_of image y.item.segment) _ (λ y l d. (ap (tile y.item.entry y.item.segment) d ∙ l.0, l.1, l.2, l.3)) (brought r.tiles) lies.tiles alike.tiles;
-  attachments = on_all _ (λ (y : Lain AttItem). data_of other y.item.segment ≡ data_of image y.item.segment) _ (λ y l d. (ap (att_item y.item.entry y.item.segment) d ∙ l.0, l.1, l.2, l.3)) (brought r.attachments) lies.attachments alike.attachments;
-  metadata = on_all _ (λ (y : Lain MetaItem). data_of other y.item.segment ≡ data_of image y.item.segment) _ (λ y l d. (ap (meta_item y.item.segment) d ∙ l.0, l.1, l.2)) (option_to_list (set_new r.metadata)) lies.metadata alike.metadata;
+  tiles = on_all _ (λ (y : Lain Tile). data_of other y.item.segment ≡ data_of image y.item.segment) _ (λ y l d. (ap (tile y.item.entry y.item.segment) d ∙ l.0, l.1, l.2, l.3, l.4)) (brought r.tiles) lies.tiles alike.tiles;
+  attachments = on_all _ (λ (y : Lain AttItem). data_of other y.item.segment ≡ data_of image y.item.segment) _ (λ y l d. (ap (att_item y.item.entry y.item.segment) d ∙ l.0, l.1, l.2, l.3, l.4)) (brought r.attachments) lies.attachments alike.attachments;
+  metadata = on_all _ (λ (y : Lain MetaItem). data_of other y.item.segment ≡ data_of image y.item.segment) _ (λ y l d. (ap (meta_item y.item.segment) d ∙ l.0, l.1, l.2, l.3)) (option_to_list (set_new r.metadata)) lies.metadata alike.metadata;
 }
 
 -- so the whole list does
