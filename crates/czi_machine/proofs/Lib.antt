@@ -47,3 +47,4 @@ pub mod Repacked
 pub mod EachStep
 pub mod FromPlan
 pub mod Follow
+pub mod StepLaws

@@ -22,3 +22,4 @@ pub mod Formers
 pub mod Laws
 pub mod Planned
 pub mod Fits
+pub mod Kept
