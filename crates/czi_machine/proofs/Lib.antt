@@ -48,3 +48,4 @@ pub mod EachStep
 pub mod FromPlan
 pub mod Follow
 pub mod StepLaws
+pub mod OneOfThem

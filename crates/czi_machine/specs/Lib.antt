@@ -23,3 +23,4 @@ pub mod Laws
 pub mod Planned
 pub mod Fits
 pub mod Kept
+pub mod Instance
