@@ -63,9 +63,9 @@ fn check<R: Rig>(rig: &mut R, head: &SlotHead) -> Result<(), OpenError>
         return Err(OpenError::ImageShort { have, need });
     }
     let mut image = [0u8; 16];
-    if rig.read_at(File::Image, GUID_AT, &mut image).is_err() {
+    let Ok(()) = rig.read_at(File::Image, GUID_AT, &mut image) else {
         return Err(OpenError::ImageDevice);
-    }
+    };
     let journal = head.guid;
     if journal != image {
         return Err(OpenError::ForeignJournal { journal, image });
@@ -91,10 +91,10 @@ fn bring_back<R: Rig>(rig: &mut R, links: &Links, head: &SlotHead) -> Result<(),
     ensures cause { IfErr result (IsCaused (R.state rig.old) (R.state rig.new)) }
 {
     check(rig, head)?;
-    if recover(rig, links, head).is_err() {
-        return Err(OpenError::ImageDevice);
+    match recover(rig, links, head) {
+        Ok(()) => Ok(()),
+        Err(Failed) => Err(OpenError::ImageDevice),
     }
-    Ok(())
 }
 
 /// Makes the image the recovered one, and answers where the journal stands. The links that it takes for this are
@@ -116,14 +116,16 @@ pub(crate) fn restore<R: Rig>(
     ensures goes_on { GoesOn (R.state rig.old) (R.state rig.new) }
     ensures cause { IfErr result (IsCaused (R.state rig.old) (R.state rig.new)) }
 {
-    let Some((journal, head)) = probe(alloc, rig, links)? else {
-        return Ok(Journal {
+    match probe(alloc, rig, links)? {
+        None => Ok(Journal {
             armed: false,
             selected: Slot::A,
-        });
-    };
-    bring_back(rig, links, &head)?;
-    Ok(journal)
+        }),
+        Some((journal, head)) => {
+            bring_back(rig, links, &head)?;
+            Ok(journal)
+        }
+    }
 }
 
 /// The image's index.
