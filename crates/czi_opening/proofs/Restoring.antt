@@ -2,6 +2,7 @@
 use Rattle.std.proofs.Common.{◌≡◌, ℕ, Bool, true, false, Option, None, Some, List, refl, sym, ◌∙◌, ap, subst, IsTrue}
 use Rattle.std.specs.Prelude.{option_map}
 use Rattle.std.specs.Option.{ForSome}
+use Rattle.czi_rig.specs.declared.file.File.{File}
 use Rattle.czi_rig.specs.declared.file.File.TheVariants.{Image, Journal}
 use Rattle.czi_rig.specs.Disk.{Disk, IsAtRest, at_rest}
 use Rattle.czi_rig.specs.State.{State, known, seen_of, SameAll, LeavesOther}
@@ -83,3 +84,8 @@ unread_tells mid t j x y error r same refuses = cases error (refuses r.bytes (ap
     cases ImageDevice h = tt
     cases JournalDevice h = absurd h
     cases Memory h = tt
+
+-- what is read of a file after calls that change nothing
+pub seen_after : (s t : State) (f : File) (x : List ℕ) → SameAll s t → seen_of s f ≡ Some x → seen_of t f ≡ Some x
+seen_after s t Image x same is = ap (option_map (λ (d : Disk). d.seen)) same.image ∙ is
+seen_after s t Journal x same is = ap (option_map (λ (d : Disk). d.seen)) same.journal ∙ is

@@ -33,8 +33,9 @@ pub fn close<R: Rig>(rig: &mut R, journal: Journal) -> Result<(), Failed>
     ensures goes_on { GoesOn (R.state rig.old) (R.state rig.new) }
     ensures cause { OnErr result (Rose (R.state rig.old).journal_faults (R.state rig.new).journal_faults) }
 {
-    if !journal.armed {
-        return Ok(());
+    if journal.armed {
+        seal(rig, journal)
+    } else {
+        Ok(())
     }
-    seal(rig, journal)
 }

@@ -8,11 +8,11 @@ use Rattle.czi_opening.specs.Course.{CountsOrVoid}
 use Rattle.czi_opening.proofs.Standing.{closing_stands}
 use Rattle.czi_opening.proofs.closing.close.Goals as goal
 
-pub returns-then-not-journal-clause-closed : goal.returns-then-not-journal-clause-closed
-returns-then-not-journal-clause-closed g c = subst (λ armed. ForSome (known (g.R.Rig.state c.args.rig.now) Journal) (Everywhere (CountsOrVoid armed))) c.if-not-journal.true c.requires.stands
+pub returns-else-journal-clause-closed : goal.returns-else-journal-clause-closed
+returns-else-journal-clause-closed g c = subst (λ armed. ForSome (known (g.R.Rig.state c.args.rig.now) Journal) (Everywhere (CountsOrVoid armed))) c.if-journal.false c.requires.stands
 
 pub seal-requires : goal.seal-requires
-seal-requires g c = record { counts = subst (λ armed. ForSome (known (g.R.Rig.state c.args.rig.now) Journal) (Everywhere (CountsOrVoid armed))) c.if-not-journal.false c.requires.stands }
+seal-requires g c = record { counts = subst (λ armed. ForSome (known (g.R.Rig.state c.args.rig.now) Journal) (Everywhere (CountsOrVoid armed))) c.if-journal.true c.requires.stands }
 
-pub returns-clause-moments : goal.returns-clause-moments
-returns-clause-moments g c = λ all is rest own. weaker g.R.Rig (closing_stands all rest own) (c.seal.ensures.moments all is)
+pub returns-then-journal-clause-moments : goal.returns-then-journal-clause-moments
+returns-then-journal-clause-moments g c = λ all is rest own. weaker g.R.Rig (closing_stands all rest own) (c.seal.ensures.moments all is)

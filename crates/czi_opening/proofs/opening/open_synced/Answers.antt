@@ -1,4 +1,8 @@
+use Rattle.std.proofs.Common.{ap}
+use Rattle.std.specs.Prelude.{option_map}
 use Rattle.std.proofs.lemmas.Result.{err_from_is_err_and}
+use Rattle.czi_rig.specs.Disk.{Disk}
+use Rattle.czi_links.specs.WriteSet.{WriteSet}
 use Rattle.czi_rig.proofs.Files.{everywhere_at_rest}
 use Rattle.czi_opening.specs.Answers.{IsJournal}
 use Rattle.czi_opening.proofs.Restoring.{still_synced, unread_tells}
@@ -19,8 +23,8 @@ returns-clause-opened g c = λ x of_image y of_journal.
     record {
       bytes = r.bytes;
       recovered = r.recovered;
-      indexes = ?;
+      indexes = c.in_ok-index.ensures.shown r.bytes (ap (option_map (λ (d : Disk). d.seen)) r.synced.image_is);
       synced = still_synced s t r.bytes y c.read_image.ensures.untouched.same r.synced;
       stands = everywhere_at_rest (IsJournal c.in_ok-journal.journal) y r.stands;
-      no_links = ?;
+      no_links = ap (λ (w : WriteSet). w.links) c.clear.ensures;
     }
