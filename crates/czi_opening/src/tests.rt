@@ -80,7 +80,9 @@ fn a_void_journal_leaves_the_image(rt: HostRuntime) -> Result<(), Fail> {
     let image = file(alloc, 800, &IMAGE, &[])?;
     let journal = file(alloc, 524352, &JOURNAL, &[(0, &[0])])?;
     let mut rig = MemRig::new(alloc, &image, &journal)?;
-    let opened = open(alloc, &mut rig).ok().ok_or("not opened")?;
+    let Ok(opened) = open(alloc, &mut rig) else {
+        return Err(Fail::new("not opened"));
+    };
     assert!(rt; opened.index.directory.is_none() && opened.index.length == 800);
     assert!(rt; !opened.journal.armed);
     assert_eq!(rt; rig.content(File::Image), image.as_slice());
@@ -96,7 +98,9 @@ fn a_journal_that_counts_is_recovered(rt: HostRuntime) -> Result<(), Fail> {
     let image = file(alloc, 800, &IMAGE, &[(100, &[1])])?;
     let journal = file(alloc, 524352, &JOURNAL, &[])?;
     let mut rig = MemRig::new(alloc, &image, &journal)?;
-    let opened = open(alloc, &mut rig).ok().ok_or("not opened")?;
+    let Ok(opened) = open(alloc, &mut rig) else {
+        return Err(Fail::new("not opened"));
+    };
     assert_eq!(rt; opened.index.length, 704);
     assert_eq!(rt; opened.index.directory.ok_or("no directory")?.span.at, 544);
     assert!(rt; opened.journal.armed && opened.journal.selected == Slot::B);
