@@ -1,5 +1,5 @@
 -- What two files stand for, and what a crash leaves of files that are synced.
-use Rattle.std.proofs.Common.{◌≡◌, ⊎_elim, inl, inr, ℕ, ◌≤◌, Option, None, Some, List, [], refl, sym, ◌∙◌, ap, subst, arith}
+use Rattle.std.proofs.Common.{◌≡◌, ⊎_elim, inl, inr, ℕ, ◌≤◌, Option, None, Some, List, [], refl, sym, ◌∙◌, ap, subst}
 use Rattle.std.specs.Prelude.{option_map, Result, Ok, Err}
 use Rattle.std.specs.Option.{ForSome}
 use Rattle.std.proofs.lemmas.Option.{same_Some}
@@ -7,7 +7,7 @@ use Rattle.czi_rig.specs.declared.rig.Rig.{Ghosts}
 use Rattle.czi_rig.specs.declared.file.File.{File}
 use Rattle.czi_rig.specs.Disk.{Disk, Left, IsAtRest, at_rest}
 use Rattle.czi_rig.specs.State.{State, Instant, known, seen_of}
-use Rattle.czi_rig.specs.Moments.{Devices, devices, LeavesNow, Throughout, CountsNow, OnlyNow}
+use Rattle.czi_rig.specs.Moments.{Devices, devices, LeavesNow, Throughout, OnlyNow}
 use Rattle.czi_rig.specs.Quiet.{AddsNothing}
 use Rattle.czi_rig.proofs.Files.{left_settled}
 use Rattle.czi_rig.proofs.Known.{is_honest}
@@ -20,7 +20,7 @@ use Rattle.czi_vault.proofs.Lists.{same_everywhere}
 use Rattle.czi_opening.specs.declared.opening.Opened.{Opened}
 use Rattle.czi_opening.specs.declared.error.OpenError.{OpenError}
 use Rattle.czi_opening.specs.declared.error.OpenError.TheVariants.{JournalVersion, BadJournal, ImageShort, ForeignJournal, Refused, ImageDevice, JournalDevice, Memory}
-use Rattle.czi_opening.specs.Course.{StandsAs, Stays, From, OpensFrom, StandsForItself}
+use Rattle.czi_opening.specs.Course.{Stays, From, OpensFrom, StandsForItself}
 use Rattle.czi_opening.specs.Steps.{CanBeOf}
 
 -- a reading and an image stand for one list of bytes at most

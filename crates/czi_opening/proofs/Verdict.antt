@@ -1,10 +1,9 @@
 -- A pair of files opens to one document, or it is refused.
-use Rattle.std.proofs.Common.{◌≡◌, ◌⊎◌, ⊎_elim, inl, inr, ℕ, ◌<◌, ◌≤◌, List, [], ◌∷◌, length, take, drop, get_or, refl, sym, ◌∙◌, ap, subst, arith}
+use Rattle.std.proofs.Common.{◌≡◌, ◌⊎◌, ⊎_elim, inl, inr, ℕ, List, [], ◌∷◌, length, take, drop, get_or, refl, sym, ◌∙◌, ap, subst, arith}
 use Rattle.std.proofs.lemmas.Bool.{cases_eq, cases_lt}
 use Rattle.czi_format.specs.Document.{Document}
 use Rattle.czi_format.specs.Live.{document, update_pending}
 use Rattle.czi_format.specs.Shows.{Shows}
-use Rattle.czi_format.specs.Refusals.{Refusal, IsRefused}
 use Rattle.czi_format.proofs.Unique.{shows_unique}
 use Rattle.czi_format.proofs.Rules.{refused_or_shown, never_both}
 use Rattle.czi_image.specs.declared.index.Index.{Index}
@@ -13,7 +12,7 @@ use Rattle.czi_links.specs.Record.{Record}
 use Rattle.czi_links.specs.Reading.{Reading, Void, Holds, OfVersion, BadAt}
 use Rattle.czi_journal.specs.Journals.{slot_of}
 use Rattle.czi_vault.specs.Recovered.{StandsFor, Makes, Recovered, applied}
-use Rattle.czi_opening.specs.Opens.{Opens, Cause, of_version, bad_at, too_short, of_another, unread, IsTooShort, IsOfAnother, IsUnread, IsRefusedBy}
+use Rattle.czi_opening.specs.Opens.{Opens, Cause, of_version, bad_at, too_short, of_another, unread, IsRefusedBy}
 use Rattle.czi_opening.proofs.Standing.{stands_one}
 
 pub opens_one : (image journal : List ℕ) (d e : Document) → Opens image journal d → Opens image journal e → d ≡ e

@@ -6,7 +6,6 @@ use Rattle.czi_journal.specs.declared.probing.JournalFault.{JournalFault}
 use Rattle.czi_journal.specs.declared.probing.JournalFault.TheVariants as of_journal
 use Rattle.czi_image.specs.declared.fault.ImageFault.{ImageFault}
 use Rattle.czi_image.specs.declared.fault.ImageFault.TheVariants as of_image
-use Rattle.czi_opening.specs.declared.error.ImageRefusal.{ImageRefusal}
 use Rattle.czi_opening.specs.declared.error.ImageRefusal.TheVariants.{NotCzi, MultiPart, Pending, BadDirectory, TooMany, BadEntry, BadSegment, BadAttachment, Overlap}
 use Rattle.czi_opening.specs.declared.error.OpenError.{OpenError}
 use Rattle.czi_opening.specs.declared.error.OpenError.TheVariants.{JournalVersion, BadJournal, ImageShort, ForeignJournal, Refused, ImageDevice, JournalDevice, Memory}

@@ -112,64 +112,45 @@ fn a_journal_that_counts_is_recovered(rt: HostRuntime) -> Result<(), Fail> {
     Ok(())
 }
 
-// The error, and whether the image was left as it was.
+// The error with some bytes of the image and of the journal written over, and whether the image was left as it was.
 fn refusal(
     alloc: Global,
-    image: &[u8],
-    journal: &[u8],
+    in_image: &[Part],
+    in_journal: &[Part],
 ) -> Result<(Option<OpenError>, bool), AllocError> {
-    let mut rig = MemRig::new(alloc, image, journal)?;
+    let image = file(alloc, 800, &IMAGE, in_image)?;
+    let journal = file(alloc, 524352, &JOURNAL, in_journal)?;
+    let mut rig = MemRig::new(alloc, &image, &journal)?;
     let error = open(alloc, &mut rig).err();
-    Ok((error, rig.content(File::Image) == image))
+    Ok((error, rig.content(File::Image) == image.as_slice()))
 }
 
 #[test]
 fn each_refusal_has_its_values(rt: HostRuntime) -> Result<(), Fail> {
     let alloc = rt.alloc();
-    let foreign = OpenError::ForeignJournal {
-        journal: [9; 16],
-        image: [7; 16],
-    };
     let short = OpenError::ImageShort {
         have: 800,
         need: 801,
     };
-    let cases: [(&[Part], &[Part], OpenError, bool); 7] = [
-        (&[], &[(262208, &[2])], OpenError::JournalVersion(2), true),
-        (
-            &[],
-            &[(262228, &[9, 0])],
-            OpenError::BadJournal(262228),
-            true,
-        ),
-        (&[], &[(262228, &[0x21, 3])], short, true),
-        (&[], &[(262212, &[9; 16])], foreign, true),
-        // too short and of another: the length is told first
-        (
-            &[],
-            &[(262212, &[9; 16]), (262228, &[0x21, 3])],
-            short,
-            true,
-        ),
-        (
-            &[(80, &[3])],
-            &[],
-            OpenError::Refused(ImageRefusal::MultiPart(3)),
-            false,
-        ),
-        (
-            &[(100, &[1])],
-            &[(0, &[0])],
-            OpenError::Refused(ImageRefusal::Pending(1)),
-            true,
-        ),
-    ];
-    for (number, (in_image, in_journal, error, kept)) in cases.iter().enumerate() {
-        let image = file(alloc, 800, &IMAGE, in_image)?;
-        let journal = file(alloc, 524352, &JOURNAL, in_journal)?;
-        let found = refusal(alloc, &image, &journal)?;
-        assert_eq!(rt; found, (Some(*error), *kept), "case {number}");
-    }
+    let foreign = OpenError::ForeignJournal {
+        journal: [9; 16],
+        image: [7; 16],
+    };
+    let part = OpenError::Refused(ImageRefusal::MultiPart(3));
+    let pending = OpenError::Refused(ImageRefusal::Pending(1));
+    let found = refusal(alloc, &[], &[(262208, &[2])])?;
+    assert_eq!(rt; found, (Some(OpenError::JournalVersion(2)), true));
+    let found = refusal(alloc, &[], &[(262228, &[9, 0])])?;
+    assert_eq!(rt; found, (Some(OpenError::BadJournal(262228)), true));
+    // too short, and of another: the length is told first
+    let found = refusal(alloc, &[], &[(262228, &[0x21, 3]), (262212, &[9])])?;
+    assert_eq!(rt; found, (Some(short), true));
+    let found = refusal(alloc, &[], &[(262212, &[9; 16])])?;
+    assert_eq!(rt; found, (Some(foreign), true));
+    let found = refusal(alloc, &[(80, &[3])], &[])?;
+    assert_eq!(rt; found, (Some(part), false));
+    let found = refusal(alloc, &[(100, &[1])], &[(0, &[0])])?;
+    assert_eq!(rt; found, (Some(pending), true));
     Ok(())
 }
 

@@ -1,4 +1,3 @@
-use Rattle.std.proofs.Common.{◌∙◌}
 use Rattle.czi_opening.specs.Course.{Stays}
 use Rattle.czi_opening.proofs.Standing.{from_synced, opens_from}
 use Rattle.czi_opening.proofs.Restoring.{synced_devices}

@@ -1,4 +1,4 @@
-use Rattle.std.proofs.Common.{Some, false, subst, ◌∙◌}
+use Rattle.std.proofs.Common.{false, subst, ◌∙◌}
 use Rattle.std.specs.Prelude.{Ok}
 use Rattle.czi_rig.specs.declared.file.File.TheVariants.{Image, Journal}
 use Rattle.czi_rig.proofs.Known.{known_file, same_known}
