@@ -35,7 +35,8 @@ pub struct Opened {
 /// # Errors
 ///
 /// After one of the first four nothing was written, and both files are synced. After `Refused` the image is the
-/// recovered one. After the others each pair of files that a crash leaves stands for what they stood for.
+/// recovered one. After `Memory` each pair of files that a crash leaves stands for what they stood for. So it does
+/// after a fault of a device, or, where a sync failed, a crash leaves what it could have left before.
 pub fn open<R: Rig>(alloc: Global, rig: &mut R) -> Result<Opened, OpenError>
     // The image becomes what both files stood for, the journal stays. Both are on the disk, and stand as it is told.
     ensures recovered { OnOk result (ForSome (seen_of (R.state rig.old) File.Image) (λ image. ForSome (seen_of (R.state rig.old) File.Journal) (λ journal.
