@@ -1,0 +1,331 @@
+-- Scripts over the empty document, worked out: where the segments, the free runs and the held spans lie.
+use Rattle.std.proofs.Common.{◌≡◌, ℕ, zero, suc, pos, List, [], ◌∷◌, ◌++◌, map, length, replicate, Option, Some, None, refl, codes, true}
+use Prim.Native.String.{String}
+use Rattle.czi_format.specs.Bytes.{padded}
+use Rattle.czi_format.specs.Entry.{Dim}
+use Rattle.czi_format.specs.Key.{key, attachment_key}
+use Rattle.czi_format.specs.Document.{Document, Subblock, Attachment}
+use Rattle.czi_format.specs.Span.{Span}
+use Rattle.czi_format.specs.Layout.{Layout, Place}
+use Rattle.czi_machine.specs.Edit.{add, replace, remove, attach, reattach, detach, set_meta, no_key, duplicate, nothing}
+use Rattle.czi_format.specs.Space.{Full, free_runs}
+use Rattle.czi_machine.specs.State.{State, held, spans_of}
+use Rattle.czi_machine.specs.Machine.{Command, edit, undo, repack, Answer, ok, no, ok_repacked, Step, steps, start}
+
+-- the places of a state, as pairs of a place and a size
+record View : Type 0 where
+  length : ℕ
+  directory : List Span
+  tiles : List Span
+  attdir : List Span
+  attachments : List Span
+  metadata : List Span
+  runs : List Span
+  held : List Span
+  deleted : List Span
+  walk_end : ℕ
+
+spans_in : Option Place → List Span
+spans_in None = []
+spans_in (Some p) = p.span ∷ []
+
+view : State → View
+view s = record {
+  length = s.layout.length;
+  directory = spans_in s.layout.directory;
+  tiles = spans_of s.layout.subblocks;
+  attdir = spans_in s.layout.attdir;
+  attachments = spans_of s.layout.attachments;
+  metadata = spans_in s.layout.metadata;
+  runs = free_runs (held s) s.layout.deleted;
+  held = held s;
+  deleted = s.layout.deleted;
+  walk_end = s.layout.walk_end;
+}
+
+no_move : Layout → Option Full
+no_move l = None
+
+last_of : State → List (Step ℕ) → State
+last_of s [] = s
+last_of s (t ∷ ts) = last_of t.state ts
+
+abbrev empty_document : Document
+empty_document = record { identity = replicate 52 0; subblocks = []; attachments = []; metadata = None }
+
+abbrev empty_layout : Layout
+empty_layout = record {
+  length = 704;
+  header = record { span = record { at = 0; len = 544 }; walked = true };
+  directory = Some (record { span = record { at = 544; len = 160 }; walked = true });
+  attdir = None;
+  metadata = None;
+  subblocks = [];
+  attachments = [];
+  walk_end = 704;
+  deleted = [];
+  unknown = [];
+}
+
+abbrev origin : State
+origin = start empty_document empty_layout
+
+abbrev ends : List (Command ℕ) → View
+ends script = view (last_of origin (steps no_move origin script))
+
+abbrev answers_from : State → List (Command ℕ) → List (Answer ℕ)
+answers_from s script = map (λ (t : Step ℕ). t.answer) (steps no_move s script)
+
+abbrev answers : List (Command ℕ) → List (Answer ℕ)
+answers script = map (λ (t : Step ℕ). t.answer) (steps no_move origin script)
+
+at : ℕ → ℕ → Span
+at place len = record { at = place; len = len }
+
+dim : String → ℕ → ℕ → Dim
+dim name start size = record { name = padded 4 name; start = pos start; size = pos size; coord = replicate 4 0; stored = pos size }
+
+dims_at : ℕ → List Dim
+dims_at c = dim "C" c 1 ∷ dim "X" 0 4 ∷ dim "Y" 0 2 ∷ []
+
+subblock : ℕ → ℕ → ℕ → ℕ → Subblock
+subblock pixel c meta data' = record {
+  info = record { pixel = pos pixel; compression = pos 0; pyramid = 0; spare = replicate 5 0; dims = dims_at c };
+  meta = replicate meta 0;
+  pixels = replicate data' 0x41;
+  tail = [];
+}
+
+tile : ℕ → Subblock
+tile c = subblock 0 c 0 8
+
+xml : ℕ → Command ℕ
+xml k = edit (set_meta (record { xml = replicate k 0x61; tail = [] }))
+
+-- one tile
+one_added : ends (edit (add (tile 0)) ∷ []) ≡ record {
+  length = 1280;
+  directory = at 1024 256 ∷ [];
+  tiles = at 704 320 ∷ [];
+  attdir = [];
+  attachments = [];
+  metadata = [];
+  runs = at 544 160 ∷ [];
+  held = [];
+  deleted = at 544 160 ∷ [];
+  walk_end = 1280;
+}
+unfolding view spans_in last_of no_move tile subblock dims_at dim at key
+one_added = refl
+
+added_twice : answers (edit (add (tile 0)) ∷ edit (add (tile 0)) ∷ []) ≡ ok 1 ∷ no (duplicate 0) ∷ []
+unfolding no_move tile subblock dims_at dim key
+added_twice = refl
+
+removed_and_added : ends (edit (add (tile 0)) ∷ edit (remove (dims_at 0)) ∷ edit (add (tile 1)) ∷ []) ≡ record {
+  length = 1600;
+  directory = at 1024 256 ∷ [];
+  tiles = at 1280 320 ∷ [];
+  attdir = [];
+  attachments = [];
+  metadata = [];
+  runs = at 544 160 ∷ [];
+  held = at 704 320 ∷ [];
+  deleted = at 544 480 ∷ [];
+  walk_end = 1600;
+}
+unfolding view spans_in last_of no_move tile subblock dims_at dim at key
+removed_and_added = refl
+
+-- 31 more commands, and the first former that held the tile is dropped: then its place is used again
+metas : ℕ → List (Command ℕ)
+metas zero = []
+metas (suc n) = xml 0 ∷ metas n
+
+held_until_dropped : ends (edit (add (tile 0)) ∷ edit (remove (dims_at 0)) ∷ edit (add (tile 1)) ∷ (metas 31 ++ edit (add (tile 2)) ∷ [])) ≡ record {
+  length = 10880;
+  directory = at 10528 352 ∷ [];
+  tiles = at 1280 320 ∷ at 544 320 ∷ [];
+  attdir = [];
+  attachments = [];
+  metadata = at 10240 288 ∷ [];
+  runs = at 864 416 ∷ [];
+  held = (ends (edit (add (tile 0)) ∷ edit (remove (dims_at 0)) ∷ edit (add (tile 1)) ∷ (metas 31 ++ edit (add (tile 2)) ∷ []))).held;
+  deleted = (ends (edit (add (tile 0)) ∷ edit (remove (dims_at 0)) ∷ edit (add (tile 1)) ∷ (metas 31 ++ edit (add (tile 2)) ∷ []))).deleted;
+  walk_end = 10880;
+}
+unfolding view spans_in last_of no_move tile subblock dims_at dim at key metas xml
+held_until_dropped = refl
+
+thirty_held : length (ends (edit (add (tile 0)) ∷ edit (remove (dims_at 0)) ∷ edit (add (tile 1)) ∷ (metas 31 ++ edit (add (tile 2)) ∷ []))).held ≡ 30
+unfolding view spans_in last_of no_move tile subblock dims_at dim at key metas xml
+thirty_held = refl
+
+add_undone : ends (edit (add (tile 0)) ∷ undo ∷ []) ≡ record {
+  length = 1280;
+  directory = at 544 160 ∷ [];
+  tiles = [];
+  attdir = [];
+  attachments = [];
+  metadata = [];
+  runs = at 704 576 ∷ [];
+  held = [];
+  deleted = at 704 576 ∷ [];
+  walk_end = 1280;
+}
+unfolding view spans_in last_of no_move tile subblock dims_at dim at key
+add_undone = refl
+
+undone_twice : answers (edit (add (tile 0)) ∷ undo ∷ undo ∷ []) ≡ ok 1 ∷ ok 2 ∷ no nothing ∷ []
+unfolding no_move tile subblock dims_at dim key
+undone_twice = refl
+
+replaced : ends (edit (add (tile 0)) ∷ edit (replace (subblock 1 0 100 16)) ∷ []) ≡ record {
+  length = 1952;
+  directory = at 1696 256 ∷ [];
+  tiles = at 1280 416 ∷ [];
+  attdir = [];
+  attachments = [];
+  metadata = [];
+  runs = at 544 160 ∷ at 1024 256 ∷ [];
+  held = at 704 320 ∷ [];
+  deleted = at 544 736 ∷ [];
+  walk_end = 1952;
+}
+unfolding view spans_in last_of no_move tile subblock dims_at dim at key
+replaced = refl
+
+replace_undone : ends (edit (add (tile 0)) ∷ edit (replace (subblock 1 0 100 16)) ∷ undo ∷ []) ≡ record {
+  length = 1952;
+  directory = at 1024 256 ∷ [];
+  tiles = at 704 320 ∷ [];
+  attdir = [];
+  attachments = [];
+  metadata = [];
+  runs = at 544 160 ∷ at 1280 672 ∷ [];
+  held = [];
+  deleted = at 544 160 ∷ at 1280 672 ∷ [];
+  walk_end = 1952;
+}
+unfolding view spans_in last_of no_move tile subblock dims_at dim at key
+replace_undone = refl
+
+three_added : ends (edit (add (tile 0)) ∷ edit (add (tile 1)) ∷ edit (add (tile 2)) ∷ []) ≡ record {
+  length = 2720;
+  directory = at 2272 448 ∷ [];
+  tiles = at 704 320 ∷ at 1280 320 ∷ at 1952 320 ∷ [];
+  attdir = [];
+  attachments = [];
+  metadata = [];
+  runs = at 544 160 ∷ at 1024 256 ∷ at 1600 352 ∷ [];
+  held = [];
+  deleted = at 544 160 ∷ at 1024 256 ∷ at 1600 352 ∷ [];
+  walk_end = 2720;
+}
+unfolding view spans_in last_of no_move tile subblock dims_at dim at key
+three_added = refl
+
+first_removed : ends (edit (add (tile 0)) ∷ edit (add (tile 1)) ∷ edit (add (tile 2)) ∷ edit (remove (dims_at 0)) ∷ []) ≡ record {
+  length = 2720;
+  directory = at 1600 352 ∷ [];
+  tiles = at 1280 320 ∷ at 1952 320 ∷ [];
+  attdir = [];
+  attachments = [];
+  metadata = [];
+  runs = at 544 160 ∷ at 1024 256 ∷ at 2272 448 ∷ [];
+  held = at 704 320 ∷ [];
+  deleted = at 544 736 ∷ at 2272 448 ∷ [];
+  walk_end = 2720;
+}
+unfolding view spans_in last_of no_move tile subblock dims_at dim at key
+first_removed = refl
+
+first_back : ends (edit (add (tile 0)) ∷ edit (add (tile 1)) ∷ edit (add (tile 2)) ∷ edit (remove (dims_at 0)) ∷ undo ∷ []) ≡ record {
+  length = 2720;
+  directory = at 2272 448 ∷ [];
+  tiles = at 704 320 ∷ at 1280 320 ∷ at 1952 320 ∷ [];
+  attdir = [];
+  attachments = [];
+  metadata = [];
+  runs = at 544 160 ∷ at 1024 256 ∷ at 1600 352 ∷ [];
+  held = [];
+  deleted = at 544 160 ∷ at 1024 256 ∷ at 1600 352 ∷ [];
+  walk_end = 2720;
+}
+unfolding view spans_in last_of no_move tile subblock dims_at dim at key
+first_back = refl
+
+-- a removal on one tile's image
+one_removed : ends (edit (add (tile 0)) ∷ edit (remove (dims_at 0)) ∷ []) ≡ record {
+  length = 1280;
+  directory = at 544 160 ∷ [];
+  tiles = [];
+  attdir = [];
+  attachments = [];
+  metadata = [];
+  runs = at 1024 256 ∷ [];
+  held = at 704 320 ∷ [];
+  deleted = at 704 576 ∷ [];
+  walk_end = 1280;
+}
+unfolding view spans_in last_of no_move tile subblock dims_at dim at key
+one_removed = refl
+
+attachment : ℕ → Attachment
+attachment n = record { info = record { guid = replicate 16 0; kind = padded 8 "TXT"; name = padded 80 "EventList" }; bytes = replicate n 0x61 }
+
+three_of_attachments : ends (edit (attach (attachment 5)) ∷ edit (reattach (attachment 2)) ∷ edit (detach (codes "EventList")) ∷ []) ≡ record {
+  length = 2176;
+  directory = at 544 160 ∷ [];
+  tiles = [];
+  attdir = at 1024 288 ∷ [];
+  attachments = [];
+  metadata = [];
+  runs = at 1312 128 ∷ at 1760 416 ∷ [];
+  held = at 1440 320 ∷ at 704 320 ∷ [];
+  deleted = at 704 320 ∷ at 1312 864 ∷ [];
+  walk_end = 2176;
+}
+unfolding view spans_in last_of no_move attachment at attachment_key
+three_of_attachments = refl
+
+attachment_answers : answers (edit (attach (attachment 5)) ∷ edit (attach (attachment 5)) ∷ edit (reattach (attachment 2)) ∷ edit (detach (codes "Nope")) ∷ edit (detach (codes "EventList")) ∷ [])
+    ≡ ok 1 ∷ no (duplicate 0) ∷ ok 2 ∷ no no_key ∷ ok 3 ∷ []
+unfolding no_move attachment attachment_key
+attachment_answers = refl
+
+-- 33 settings of the metadata, and 33 undos: the oldest can't be undone
+xmls : ℕ → ℕ → List (Command ℕ)
+xmls zero k = []
+xmls (suc n) k = xml k ∷ xmls n (suc k)
+
+undos : ℕ → List (Command ℕ)
+undos zero = []
+undos (suc n) = undo ∷ undos n
+
+oldest_stays : (ends (xmls 33 1 ++ undos 33)).metadata ≡ at 704 320 ∷ []
+unfolding view spans_in last_of no_move at xmls undos xml
+oldest_stays = refl
+
+thirty_three_long : (ends (xmls 33 1 ++ undos 33)).length ≡ 11296
+unfolding view spans_in last_of no_move at xmls undos xml
+thirty_three_long = refl
+
+-- a repack
+abbrev gap_layout : Layout
+gap_layout = record {
+  length = 4960;
+  header = record { span = record { at = 0; len = 544 }; walked = true };
+  directory = Some (record { span = record { at = 4704; len = 256 }; walked = true });
+  attdir = None;
+  metadata = None;
+  subblocks = record { span = record { at = 608; len = 4096 }; walked = true } ∷ [];
+  attachments = [];
+  walk_end = 4960;
+  deleted = record { at = 544; len = 64 } ∷ [];
+  unknown = [];
+}
+
+gap_repacked : answers_from (start empty_document gap_layout) (repack ∷ []) ≡ ok_repacked (record { number = 1; moved = 2; dropped = 0; before = 4960; after = 4896 }) ∷ []
+unfolding no_move
+gap_repacked = refl
