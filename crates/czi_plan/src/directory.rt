@@ -1,6 +1,6 @@
 //! New directories.
 
-ghost use Rattle.std.specs.Prelude.{◌≡◌, ◌+◌, ◌*◌, ◌^◌, ◌≤◌, ◌++◌, length, map, sum, take, drop, replicate, flat_map};
+ghost use Rattle.std.specs.Prelude.{◌≡◌, ◌+◌, ◌*◌, ◌^◌, ◌<◌, ◌≤◌, ◌++◌, pos, length, map, sum, take, drop, replicate, flat_map};
 ghost use Rattle.czi_format.specs.Entry.{entry_len, entry_bytes};
 ghost use Rattle.czi_region.specs.Pieces.{bytes_put, room};
 ghost use Rattle.czi_plan.specs.Directory.{data_in, directory_size, entries_of};
@@ -8,7 +8,7 @@ ghost use Rattle.czi_plan.specs.Directory.{data_in, directory_size, entries_of};
 use czi_dv::{entry_len, write_directory_head, write_entry};
 use czi_image::Tile;
 use czi_num::write_bytes;
-use czi_region::{Piece, Region};
+use czi_region::{Piece, Region, written_piece};
 
 /// How many bytes the entries of these subblocks have.
 pub fn entries_len(tiles: &[Tile]) -> usize
@@ -23,16 +23,26 @@ pub fn entries_len(tiles: &[Tile]) -> usize
     len
 }
 
+/// A place as it is stored in a position.
+pub fn position_of(place: u64) -> i64
+    requires { place < 2 ^ 63 }
+    ensures { result ≡ pos place }
+{
+    place as i64
+}
+
 /// Writes the entries of these subblocks from a place on, and answers the place behind them.
 fn write_entries(tiles: &[Tile], at: usize, out: &mut [u8]) -> usize
     requires { at + sum (map entry_len (entries_of tiles.now)) ≤ length out.old }
     ensures end { result ≡ at + sum (map entry_len (entries_of tiles.now)) }
+    ensures seam { length (flat_map entry_bytes (entries_of tiles.now)) ≡ sum (map entry_len (entries_of tiles.now)) }
     ensures written { out.new ≡ take at out.old ++ (flat_map entry_bytes (entries_of tiles.now) ++ drop result out.old) }
 {
     let mut end = at;
     for tile in tiles {
         let next = end + entry_len(&tile.info);
-        write_entry(&tile.info, tile.span.at as i64, &mut out[end..next]);
+        let position = position_of(tile.span.at);
+        write_entry(&tile.info, position, &mut out[end..next]);
         end = next;
     }
     end
@@ -62,5 +72,6 @@ pub fn stage_directory(before: &[Tile], behind: &[Tile], len: usize, region: &mu
 {
     let piece = region.zeros(len);
     fill_directory(before, behind, region.get_mut(&piece));
+    written_piece();
     piece
 }

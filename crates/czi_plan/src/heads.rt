@@ -11,6 +11,7 @@ ghost use Rattle.czi_spans.specs.Apart.{first_of};
 ghost use Rattle.czi_plan.specs.Geometry.{AreParts, IsLong};
 ghost use Rattle.czi_plan.specs.Steps.{AreHeads, IsHead, Linked, deleted_head, head_link, is_new};
 
+use crate::directory::position_of;
 use crate::freeing::map_after;
 use crate::plan::EditPlan;
 use czi_links::Links;
@@ -128,7 +129,7 @@ pub fn link(
     let heads = heads_of(alloc, space, new, dead, out)?;
     out.links.reserve(heads.len() + 1, 32 * heads.len() + 8)?;
     let mut pointer = [0u8; 8];
-    write_i64(&mut pointer, 0, directory as i64);
+    write_i64(&mut pointer, 0, position_of(directory));
     out.links.push(DIRECTORY_POSITION, &pointer);
     push_links(&heads, &mut out.links);
     Ok(())

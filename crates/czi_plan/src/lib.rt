@@ -9,6 +9,8 @@ mod placing;
 mod plan;
 mod removal;
 mod search;
+#[cfg(test)]
+mod tests;
 
 pub use plan::{EditPlan, PlanFault};
 pub use removal::plan_remove;

@@ -26,7 +26,8 @@ pub fn tile_with(alloc: Global, tiles: &[Tile], dims: &Dims) -> Result<Option<us
 {
     let wanted = Key::of(alloc, dims)?;
     for (i, tile) in tiles.iter().enumerate() {
-        if has_key(alloc, &tile.info.dims, &wanted)? {
+        let found = has_key(alloc, &tile.info.dims, &wanted)?;
+        if found {
             return Ok(Some(i));
         }
     }

@@ -6,7 +6,6 @@ use Rattle.czi_plan.proofs.directory.write_entries.Given as goal
 abbrev pub invariant-loop-tile : goal.invariant-loop-tile
 invariant-loop-tile l = record {
   end : l.end + sum (map entry_len (entries_of (drop l.tile-index l.tiles))) ≡ l.at + sum (map entry_len (entries_of l.tiles));
-  low : l.at ≤ l.end;
-  long : length l.out ≡ length l.initial.out;
+  seam : l.at + length (flat_map entry_bytes (entries_of (take l.tile-index l.tiles))) ≡ l.end;
   written : l.out ≡ take l.at l.initial.out ++ (flat_map entry_bytes (entries_of (take l.tile-index l.tiles)) ++ drop l.end l.initial.out);
 }
