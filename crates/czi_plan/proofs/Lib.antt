@@ -5,3 +5,4 @@ pub mod Extents
 pub mod Links
 pub mod Fits
 pub mod Gone
+pub mod Order

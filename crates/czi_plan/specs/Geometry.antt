@@ -16,18 +16,20 @@ abbrev pub AreFreed : ℕ → List Span → List Span → Type 0
 AreFreed n [] extents = ⊤
 AreFreed n (s ∷ freed) extents = IsWhole s × MeetsNone s extents × (end_of s ≤ n) × AreFreed n freed (with_freed s extents)
 
--- a span behind the first 112 bytes, with room for a header, that ends at or below 2^62
-pub record IsLong (s : Span) : Type 0 where
+-- a span behind the first 112 bytes, with room for a header, that ends at or below a place
+pub record IsLong (top : ℕ) (s : Span) : Type 0 where
   pub far : 112 ≤ s.at
   pub long : 32 ≤ s.len
-  pub ends : end_of s ≤ 2 ^ 62
+  pub ends : end_of s ≤ top
 
--- Extents of which some spans are used and others freed, beside spans that can't be used again.
-pub record AreParts (n : ℕ) (used freed dead extents : List Span) : Type 0 where
+-- Extents below a length of which some spans are used and others freed, beside spans that can't be used again; all end at
+-- or below a place.
+pub record AreParts (n top : ℕ) (used freed dead extents : List Span) : Type 0 where
+  pub small : top ≤ 2 ^ 62
   pub rise : AreExtents 0 n extents
   pub takes : AreUsed n used extents
   pub frees : AreFreed n (sorted span_le freed) (without used extents)
-  pub used_long : AllByRecursion IsLong used
-  pub dead_long : AllByRecursion IsLong dead
-  pub after_long : AllByRecursion IsLong (deleted_after used freed extents)
+  pub used_long : AllByRecursion (IsLong top) used
+  pub dead_long : AllByRecursion (IsLong top) dead
+  pub after_long : AllByRecursion (IsLong top) (deleted_after used freed extents)
   pub once : (p : ℕ) → cover used p + (cover (deleted_after used freed extents) p + cover dead p) ≤ 1

@@ -1,5 +1,5 @@
 -- What the steps of a plan do.
-use Rattle.std.specs.Prelude.{◌≡◌, ℕ, ◌+◌, ◌-◌, ◌^◌, ◌≤◌, pos, List, [], ◌∷◌, ◌++◌, map, filter, Bool, not, max}
+use Rattle.std.specs.Prelude.{◌≡◌, ℕ, ◌+◌, ◌-◌, ◌^◌, ◌≤◌, pos, List, [], ◌∷◌, ◌++◌, map, filter, length, Bool, not, max}
 use Rattle.std.specs.List.{list_any}
 use Rattle.std.specs.List.Sorted.{IsPermutation}
 use Rattle.czi_format.specs.Bytes.{i64_bytes}
@@ -13,7 +13,7 @@ use Rattle.czi_num.specs.declared.span.Span.{Span as CodeSpan}
 use Rattle.czi_region.specs.Pieces.{bytes_put}
 use Rattle.czi_region.specs.declared.block.Region.{Region}
 use Rattle.czi_region.specs.declared.block.Piece.{Piece as Range}
-use Rattle.czi_seg.specs.View.{header_of}
+use Rattle.czi_seg.specs.View.{id_bytes, header_of}
 use Rattle.czi_seg.specs.declared.header.SegHeader.{SegHeader}
 use Rattle.czi_seg.specs.declared.id.SegId.TheVariants.{Deleted, Directory}
 use Rattle.czi_spans.specs.Apart.{first_of}
@@ -37,6 +37,7 @@ is_new extents s = not (list_any (same_span (span_of s)) extents)
 
 -- it can be written, and its segment has room for it
 pub record IsHead (h : Head) : Type 0 where
+  pub id : length (id_bytes h.1.id) ≡ 16
   pub long : 32 ≤ h.0.len
   pub allocated : h.1.allocated ≤ 2 ^ 62
   pub used : h.1.used ≤ 2 ^ 62
@@ -66,10 +67,11 @@ pub record Stages (es : List Entry) (region : Region) (old new : EditPlan) (head
   pub piece : Range
   pub header : head.1 ≡ directory_header es
   pub data' : bytes_put region ≡ data_in (round32 (directory_size es)) es
+  pub long : length (data_in (round32 (directory_size es)) es) ≡ round32 (directory_size es)
   pub front : piece.at ≡ 0
   pub whole : piece.len ≡ round32 (directory_size es)
   pub writes : new.writes.items ≡ old.writes.items ++ (head.0.at + 32, piece) ∷ []
   pub used : new.used.items ≡ old.used.items ++ head.0 ∷ []
   pub freed : new.freed.items ≡ old.freed.items
   pub links : new.links ≡ old.links
-  pub length : new.length ≡ max old.length (end_of (span_of head.0))
+  pub end : new.length ≡ max old.length (end_of (span_of head.0))

@@ -2,6 +2,7 @@
 
 ghost use Rattle.std.specs.Prelude.{◌≡◌, ◌+◌, ◌*◌, ◌^◌, ◌<◌, ◌≤◌, ◌++◌, pos, length, map, sum, take, drop, replicate, flat_map};
 ghost use Rattle.czi_format.specs.Entry.{entry_len, entry_bytes};
+ghost use Rattle.czi_image.specs.View.{tile_of};
 ghost use Rattle.czi_region.specs.Pieces.{bytes_put, room};
 ghost use Rattle.czi_plan.specs.Directory.{data_in, directory_size, entries_of};
 
@@ -31,6 +32,14 @@ pub fn position_of(place: u64) -> i64
     place as i64
 }
 
+/// Writes the entry of a subblock over the whole of `out`.
+fn write_tile(tile: &Tile, out: &mut [u8])
+    requires { length out.old ≡ entry_len (tile_of tile.now).entry }
+    ensures { out.new ≡ entry_bytes (tile_of tile.now).entry }
+{
+    write_entry(&tile.info, position_of(tile.span.at), out);
+}
+
 /// Writes the entries of these subblocks from a place on, and answers the place behind them.
 fn write_entries(tiles: &[Tile], at: usize, out: &mut [u8]) -> usize
     requires { at + sum (map entry_len (entries_of tiles.now)) ≤ length out.old }
@@ -41,8 +50,7 @@ fn write_entries(tiles: &[Tile], at: usize, out: &mut [u8]) -> usize
     let mut end = at;
     for tile in tiles {
         let next = end + entry_len(&tile.info);
-        let position = position_of(tile.span.at);
-        write_entry(&tile.info, position, &mut out[end..next]);
+        write_tile(tile, &mut out[end..next]);
         end = next;
     }
     end
@@ -67,6 +75,7 @@ pub fn stage_directory(before: &[Tile], behind: &[Tile], len: usize, region: &mu
     requires long { directory_size (entries_of before.now ++ entries_of behind.now) ≤ len }
     requires room { len ≤ room region.old }
     ensures bytes { bytes_put region.new ≡ bytes_put region.old ++ data_in len (entries_of before.now ++ entries_of behind.now) }
+    ensures size { length (data_in len (entries_of before.now ++ entries_of behind.now)) ≡ len }
     ensures front { result.at ≡ length (bytes_put region.old) }
     ensures whole { result.len ≡ len }
 {

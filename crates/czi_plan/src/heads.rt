@@ -8,7 +8,7 @@ ghost use Rattle.czi_machine.specs.Cover.{Chained};
 ghost use Rattle.czi_num.specs.Span.{span_of};
 ghost use Rattle.czi_space.specs.State.{AreExtents};
 ghost use Rattle.czi_spans.specs.Apart.{first_of};
-ghost use Rattle.czi_plan.specs.Geometry.{AreParts, IsLong};
+ghost use Rattle.czi_plan.specs.Geometry.{AreParts};
 ghost use Rattle.czi_plan.specs.Steps.{AreHeads, IsHead, Linked, deleted_head, head_link, is_new};
 
 use crate::directory::position_of;
@@ -52,7 +52,7 @@ fn is_among(extents: &[Span], span: &Span) -> bool
 /// Appends the headers of those extents that weren't there before.
 fn push_new(before: &[Span], after: &[Span], heads: &mut Vec<Head>) -> Result<(), AllocError>
     requires rise { (to : ℕ) × AreExtents 0 to (map span_of before.now) }
-    requires long { AllByRecursion IsLong (map span_of after.now) }
+    requires long { AllByRecursion (λ s. 32 ≤ s.len) (map span_of after.now) }
     ensures { OnOk result (heads.new.items ≡ heads.old.items ++ map deleted_head (filter (is_new (map span_of before.now)) after.now)) }
 {
     for extent in after {
@@ -65,7 +65,7 @@ fn push_new(before: &[Span], after: &[Span], heads: &mut Vec<Head>) -> Result<()
 
 /// Appends the headers of spans that can't be used again.
 fn push_dead(dead: &[Span], heads: &mut Vec<Head>) -> Result<(), AllocError>
-    requires { AllByRecursion IsLong (map span_of dead.now) }
+    requires { AllByRecursion (λ s. 32 ≤ s.len) (map span_of dead.now) }
     ensures { OnOk result (heads.new.items ≡ heads.old.items ++ map deleted_head dead.now) }
 {
     for span in dead {
@@ -95,7 +95,7 @@ fn heads_of(
     dead: &[Span],
     out: &EditPlan,
 ) -> Result<Vec<Head>, AllocError>
-    requires parts { AreParts space.now.length (map span_of out.now.used.items) (map span_of out.now.freed.items) (map span_of dead.now) space.now.extents }
+    requires parts { AreParts space.now.length out.now.length (map span_of out.now.used.items) (map span_of out.now.freed.items) (map span_of dead.now) space.now.extents }
     ensures { IfOk result (λ heads. AreHeads space.now.extents (map span_of out.now.used.items) (map span_of out.now.freed.items) new.now dead.now heads.items) }
 {
     let after = map_after(alloc, space, &out.used, &out.freed)?;
@@ -115,7 +115,7 @@ pub fn link(
     directory: u64,
     out: &mut EditPlan,
 ) -> Result<(), AllocError>
-    requires parts { AreParts space.now.length (map span_of out.old.used.items) (map span_of out.old.freed.items) (map span_of dead.now) space.now.extents }
+    requires parts { AreParts space.now.length out.old.length (map span_of out.old.used.items) (map span_of out.old.freed.items) (map span_of dead.now) space.now.extents }
     requires brought { map first_of new.now ≡ map span_of out.old.used.items }
     requires sizes { AllByRecursion IsHead new.now }
     requires empty { out.old.links.links ≡ [] }

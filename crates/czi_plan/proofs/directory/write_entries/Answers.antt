@@ -11,15 +11,13 @@ loop-tile-preserved c =
     let tiles = c.args.tiles.now in
     let i : ℕ = c.loop-tile.tile-index in
     let left = sum_here tiles i c.tile-item.result c.loop-tile-test.true c.tile-item.is in
-    let wrote : c.write_entry.new.out ≡ entry_bytes (record { info = info_of c.tile-item.result.info; position = c.position_of-position.result }) = c.write_entry.ensures.written in
-    let place : c.position_of-position.result ≡ pos c.tile-item.result.span.at = c.position_of-position.ensures in
-    let own : c.write_entry.new.out ≡ entry_bytes (tile_of c.tile-item.result).entry = wrote ∙ ap (λ z. entry_bytes (record { info = info_of c.tile-item.result.info; position = z })) place in
+    let own : c.write_tile.new.out ≡ entry_bytes (tile_of c.tile-item.result).entry = c.write_tile.ensures in
     let k : c.loop-tile.end + c.entry_len.result - c.loop-tile.end ≡ c.entry_len.result = omega arith in
-    let size : length c.write_entry.new.out ≡ c.entry_len.result = omega (arith, c.write_entry.auto.out, k) in
-    let next = entry_next tiles i c.tile-item.result c.args.at c.loop-tile.end c.entry_len.result c.args.out.now c.loop-tile.out c.write_entry.new.out c.loop-tile-test.true c.tile-item.is (omega (arith, c.requires))
+    let size : length c.write_tile.new.out ≡ c.entry_len.result = omega (arith, c.write_tile.auto.out, k) in
+    let next = entry_next tiles i c.tile-item.result c.args.at c.loop-tile.end c.entry_len.result c.args.out.now c.loop-tile.out c.write_tile.new.out c.loop-tile-test.true c.tile-item.is (omega (arith, c.requires))
     c.loop-tile.invariant.seam c.loop-tile.invariant.written own size in
     record {
       end = omega (arith, left, c.loop-tile.invariant.end, c.entry_len.ensures);
       seam = next.0;
-      written = put_as c.loop-tile.end c.entry_len.result _ c.loop-tile.out c.write_entry.new.out k ∙ next.1;
+      written = put_as c.loop-tile.end c.entry_len.result _ c.loop-tile.out c.write_tile.new.out k ∙ next.1;
     }
