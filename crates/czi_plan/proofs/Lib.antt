@@ -6,3 +6,7 @@ pub mod Links
 pub mod Fits
 pub mod Gone
 pub mod Order
+pub mod Parts
+pub mod Removed
+pub mod Placed
+pub mod Planned

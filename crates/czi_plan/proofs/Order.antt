@@ -106,7 +106,7 @@ ordered n top used freed before heads dead hs parts brought sizes are =
     let new_long : AllByRecursion (λ s. IsLong top (span_of s)) (filter (is_new before) are.after) = all_filter (λ s. IsLong top (span_of s)) (is_new before) are.after after_long in
     let dead_long : AllByRecursion (λ s. IsLong top (span_of s)) dead = all_unmap span_of (IsLong top) dead parts.dead_long in
     let long : AllByRecursion (IsLong top) (map first_of all) = subst (AllByRecursion (IsLong top)) (sym spans)
-        (all_append (IsLong top) used _ parts.used_long (all_append (IsLong top) (map span_of (filter (is_new before) are.after)) (map span_of dead) (all_map span_of (IsLong top) _ new_long) parts.dead_long)) in
+    (all_append (IsLong top) used _ parts.used_long (all_append (IsLong top) (map span_of (filter (is_new before) are.after)) (map span_of dead) (all_map span_of (IsLong top) _ new_long) parts.dead_long)) in
     let once : (p : ℕ) → cover (map first_of all) p ≤ 1 = λ p. omega (
       arith,
       ap (λ l. cover l p) spans,
@@ -117,8 +117,8 @@ ordered n top used freed before heads dead hs parts brought sizes are =
       parts.once p,
     ) in
     let heads_are : AllByRecursion IsHead all = all_append IsHead heads (map deleted_head (filter (is_new before) are.after ++ dead)) sizes
-        (all_map deleted_head IsHead (filter (is_new before) are.after ++ dead) (all_weaken (λ s. IsLong top (span_of s)) (λ s. IsHead (deleted_head s)) (λ s l. deleted_is_head top s parts.small l) (filter (is_new before) are.after ++ dead)
-        (all_append (λ s. IsLong top (span_of s)) (filter (is_new before) are.after) dead new_long dead_long))) in
+    (all_map deleted_head IsHead (filter (is_new before) are.after ++ dead) (all_weaken (λ s. IsLong top (span_of s)) (λ s. IsHead (deleted_head s)) (λ s l. deleted_is_head top s parts.small l) (filter (is_new before) are.after ++ dead)
+    (all_append (λ s. IsLong top (span_of s)) (filter (is_new before) are.after) dead new_long dead_long))) in
     record {
       chain = subst (Chained 112) (sym are.rising) (sorted_chained 112 (map first_of all) (all_weaken (IsLong top) (λ s. 112 ≤ s.at) (λ s l. l.far) _ long) (all_weaken (IsLong top) (λ s. 0 < s.len) (λ s l. omega (arith, l.long)) _ long) once);
       sizes = all_moved IsHead all hs are.moved heads_are;

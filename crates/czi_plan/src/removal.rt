@@ -93,6 +93,31 @@ fn release_removed(
     Ok(())
 }
 
+/// Plans the removal of the subblock at a place of the directory.
+fn remove_at(
+    alloc: Global,
+    index: &Index,
+    space: &Map,
+    i: usize,
+    region: &mut Region,
+    out: &mut EditPlan,
+) -> Result<(), PlanFault>
+    requires empty { IsEmpty out.old }
+    requires reset { bytes_put region.old ≡ [] }
+    requires of_index { IsMapOf index.now space.now }
+    requires headers { HasHeaders index.now }
+    requires inside { i < length index.now.tiles.items }
+    ensures removes { OnOk result (Removes index.now space.now i (left_entries i index.now) region.new out.new) }
+    ensures full { IfErr result (λ fault. IsCause fault (fit (space_of space.now) (directory_need (left_entries i index.now)))) }
+{
+    out.length = space.length();
+    let head = put_directory(space, &index.tiles[..i], &index.tiles[i + 1..], region, out)?;
+    let mut dead = Vec::new(alloc);
+    release_removed(index, i, &mut out.freed, &mut dead)?;
+    link(alloc, space, &[head], &dead, head.0.at, out)?;
+    Ok(())
+}
+
 /// Plans the removal of the first subblock that has the key of these dimensions.
 ///
 /// A new directory of the other subblocks goes where its need fits first. Its data are one write, from a piece of the
@@ -120,10 +145,5 @@ pub fn plan_remove(
     ensures full { IfErr result (λ fault. (i : ℕ) → tile_with (dims_of dims.now) (map tile_of index.now.tiles.items) ≡ Some i → IsCause fault (fit (space_of space.now) (directory_need (left_entries i index.now)))) }
 {
     let i = tile_with(alloc, &index.tiles, dims)?.unwrap();
-    out.length = space.length();
-    let head = put_directory(space, &index.tiles[..i], &index.tiles[i + 1..], region, out)?;
-    let mut dead = Vec::new(alloc);
-    release_removed(index, i, &mut out.freed, &mut dead)?;
-    link(alloc, space, &[head], &dead, head.0.at, out)?;
-    Ok(())
+    remove_at(alloc, index, space, i, region, out)
 }

@@ -21,5 +21,5 @@ pub returns-clause-size : goal.returns-clause-size
 returns-clause-size c =
     let long : length c.get_mut.result.now ≡ c.args.len = ap length (c.get_mut.ensures.value ∙ c.zeros-piece.ensures.reads) ∙ length-replicate c.args.len 0 in
     let filled : c.fill_directory.new.out ≡ data_in c.args.len (entries_of c.args.before.now ++ entries_of c.args.behind.now)
-        = c.fill_directory.ensures ∙ ap (λ n. data_in n (entries_of c.args.before.now ++ entries_of c.args.behind.now)) long in
+    = c.fill_directory.ensures ∙ ap (λ n. data_in n (entries_of c.args.before.now ++ entries_of c.args.behind.now)) long in
     omega (arith, ap length filled, c.fill_directory.auto.out, long)

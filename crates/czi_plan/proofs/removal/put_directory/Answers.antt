@@ -18,6 +18,6 @@ placed_as seen used m a b s is need fits =
 pub returns-clause-placed : goal.returns-clause-placed
 returns-clause-placed c =
     let size : 128 + c.entries_len.result + c.entries_len-2.result ≡ directory_size (entries_of c.args.before.now ++ entries_of c.args.behind.now)
-        = omega (arith, size_of_both (entries_of c.args.before.now) (entries_of c.args.behind.now), c.entries_len.ensures.len, c.entries_len-2.ensures.len) in
+    = omega (arith, size_of_both (entries_of c.args.before.now) (entries_of c.args.behind.now), c.entries_len.ensures.len, c.entries_len-2.ensures.len) in
     let need : 32 + c.round32-allocated.result ≡ directory_need (entries_of c.args.before.now ++ entries_of c.args.behind.now) = ap (λ n. 32 + n) (c.round32-allocated.ensures.value ∙ ap round32 size) in
     placed_as c.deref.result.now c.args.out.now.used.items c.args.space.now _ _ c.in_ok-span.span c.deref.ensures.value need c.in_ok-span.ensures.placed

@@ -15,8 +15,8 @@ pub returns-then-found : goal.returns-then-found
 returns-then-found c =
     let item : CodeTile = c.index-tiles-i.result in
     let here : same_key (key (dims_of (get_or c.args.tiles.now c.loop-i.i item).info.dims)) (key (dims_of c.args.dims.now)) ≡ true
-        = ap (λ (t : CodeTile). same_key (key (dims_of t.info.dims)) (key (dims_of c.args.dims.now))) (sym c.index-tiles-i.is)
-        ∙ (ap (same_key (key (dims_of item.info.dims))) (sym c.in_ok-wanted.ensures) ∙ (sym c.in_ok-found.ensures ∙ c.if-found.true)) in
+    = ap (λ (t : CodeTile). same_key (key (dims_of t.info.dims)) (key (dims_of c.args.dims.now))) (sym c.index-tiles-i.is)
+    ∙ (ap (same_key (key (dims_of item.info.dims))) (sym c.in_ok-wanted.ensures) ∙ (sym c.in_ok-found.ensures ∙ c.if-found.true)) in
     first_hit tile_of (λ (t : Tile). same_key (key t.entry.info.dims) (key (dims_of c.args.dims.now))) c.args.tiles.now c.loop-i.i item c.loop-i-test.true (λ k l. c.loop-i.invariant k item l) here
 
 pub loop-i-preserved : goal.loop-i-preserved
