@@ -10,3 +10,4 @@ pub mod Parts
 pub mod Removed
 pub mod Placed
 pub mod Planned
+pub mod Whole
