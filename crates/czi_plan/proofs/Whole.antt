@@ -13,7 +13,7 @@ use Rattle.czi_machine.specs.Puts.{PutsSegment}
 use Rattle.czi_machine.specs.Written.{Piece}
 use Rattle.czi_num.specs.Span.{span_of}
 use Rattle.czi_num.specs.declared.span.Span.{Span as CodeSpan}
-use Rattle.czi_region.specs.Pieces.{bytes_of, bytes_put}
+use Rattle.czi_region.specs.Pieces.{IsPiece, bytes_of, bytes_put}
 use Rattle.czi_region.specs.declared.block.Region.{Region}
 use Rattle.czi_region.specs.declared.block.Piece.{Piece as Range}
 use Rattle.czi_seg.specs.declared.id.SegId.TheVariants.{Directory}
@@ -137,6 +137,7 @@ removes x m i es region old mid new h freed dead did =
       segment = subst (λ ps. PutsSegment ps (directory_at h.0.at es).segment data') (sym pieces_are) (segment_put m.length top h es m.extents (freed_of (removed_places i x)) dead hs planned);
       around = subst (λ ps. PutsAround (removal i h.0.at es) m.extents (deleted_after (span_of h.0 ∷ []) (freed_of (removed_places i x)) m.extents) (dead_of (removed_places i x)) ps) (sym pieces_are)
           (subst (λ d. PutsAround (removal i h.0.at es) m.extents (deleted_after (span_of h.0 ∷ []) (freed_of (removed_places i x)) m.extents) d (plan_pieces h.0.at data' hs)) did.deads around_it);
+      staged = subst (λ (l : List (ℕ × Range)). AllByRecursion (λ (w : ℕ × Range). IsPiece region w.1) l) (sym writes_are) (omega (arith, st.front, st.whole, ap length st.data', st.long), tt);
       writes = subst (λ (w : List (ℕ × Range)). AllByRecursion (LiesFree m) (writes_in region w)) (sym writes_are)
           ((λ q low high. used_free m.length m.held m.extents (span_of h.0) q (map_extents x m did.of_index) (directory_used x m es h.0 did.of_index did.fits) low (omega (arith, high, ap length bytes_are, st.long, planned.size))), tt);
       links = subst (λ n. EndWithin n new.links.links) (sym length_is) (subst (EndWithin top) (sym linked.whole) (links_end m.length top h es m.extents (freed_of (removed_places i x)) dead hs planned));

@@ -18,6 +18,8 @@ use Rattle.czi_machine.specs.State.{spans_of}
 use Rattle.czi_machine.specs.Turn.{Turn}
 use Rattle.czi_machine.specs.Written.{Piece}
 use Rattle.czi_num.specs.Span.{span_of}
+use Rattle.czi_region.specs.Pieces.{IsPiece}
+use Rattle.czi_region.specs.declared.block.Piece.{Piece as Range}
 use Rattle.czi_region.specs.declared.block.Region.{Region}
 use Rattle.czi_space.specs.State.{MapState, space_of}
 use Rattle.czi_plan.specs.Around.{PutsAround, LiesFree}
@@ -59,5 +61,6 @@ pub record Removes (x : Index) (m : MapState) (i : ℕ) (es : List Entry) (regio
   pub freed : map span_of p.freed.items ≡ freed_of (removed_places i x)
   pub segment : PutsSegment (pieces_of region p) (directory_at span.at es).segment (data_in (round32 (directory_size es)) es)
   pub around : PutsAround (removal i span.at es) m.extents (deleted_after (span ∷ []) (freed_of (removed_places i x)) m.extents) (dead_of (removed_places i x)) (pieces_of region p)
+  pub staged : AllByRecursion (λ (w : ℕ × Range). IsPiece region w.1) p.writes.items
   pub writes : AllByRecursion (LiesFree m) (writes_in region p.writes.items)
   pub links : EndWithin p.length p.links.links
