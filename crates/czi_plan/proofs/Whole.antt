@@ -3,7 +3,7 @@ use Rattle.std.proofs.Common.{◌≡◌, ◌⊎◌, ℕ, zero, suc, ◌+◌, ◌
 use Rattle.std.specs.List.{AllByRecursion}
 use Rattle.czi_format.specs.Entry.{Entry}
 use Rattle.czi_format.specs.Span.{Span, end_of, round32}
-use Rattle.czi_format.specs.Space.{Fit, fit, use_all, use_span, deleted_after}
+use Rattle.czi_format.specs.Space.{Space, Fit, fit, use_all, use_span, deleted_after}
 use Rattle.czi_image.specs.Spans.{header_span}
 use Rattle.czi_image.specs.declared.index.Index.{Index}
 use Rattle.czi_image.specs.declared.types.Tile.{Tile as CodeTile}
@@ -131,7 +131,11 @@ removes x m i es region old mid new h freed dead did =
       span = span_of h.0;
       space = use_span (space_of m) (span_of h.0);
       fits = did.fits;
+      far = parts.used_long.0.far;
+      inside = omega (arith, length_is);
       length = length_is;
+      small = omega (arith, parts.small, length_is);
+      entries = st.entries;
       used = ap (map span_of) (did.same_used ∙ used_are);
       freed = ap (map span_of) did.same_freed ∙ did.frees;
       segment = subst (λ ps. PutsSegment ps (directory_at h.0.at es).segment data') (sym pieces_are) (segment_put m.length top h es m.extents (freed_of (removed_places i x)) dead hs planned);
@@ -153,3 +157,6 @@ staged_as region es fs old new h is st = subst (λ l. Stages l region old new h)
 
 pub parts_as : (n top : ℕ) (u u' f f' d d' es : List Span) → u' ≡ u → f' ≡ f → d' ≡ d → AreParts n top u f d es → AreParts n top u' f' d' es
 parts_as n top u u' f f' d d' es a b c parts = subst (λ l. AreParts n top l f' d' es) (sym a) (subst (λ l. AreParts n top u l d' es) (sym b) (subst (λ l. AreParts n top u f l es) (sym c) parts))
+
+pub fit_size : (m : MapState) (es : List Entry) (s : Span) (space : Space) → fit (space_of m) (directory_need es) ≡ Ok (record { span = s; space = space }) → s.len ≡ directory_need es
+fit_size m es s space fits = (fit_place (space_of m) (directory_need es) (record { span = s; space = space }) fits).1

@@ -1,11 +1,11 @@
 -- The plan of a removal.
-use Rattle.std.specs.Prelude.{◌≡◌, ℕ, List, [], ◌∷◌, ◌++◌, map, filter, not, Option, Some, option_map, option_to_list, Result, Ok}
+use Rattle.std.specs.Prelude.{◌≡◌, ℕ, ◌≤◌, ◌^◌, List, [], ◌∷◌, ◌++◌, map, filter, not, Option, Some, option_map, option_to_list, Result, Ok}
 use Rattle.std.specs.List.{AllByRecursion, slice_get}
-use Rattle.czi_format.specs.Entry.{Entry}
+use Rattle.czi_format.specs.Entry.{Entry, IsEntry}
 use Rattle.czi_format.specs.Layout.{Place}
 use Rattle.czi_format.specs.Live.{Live, Tile}
 use Rattle.czi_format.specs.Space.{Space, fit, deleted_after}
-use Rattle.czi_format.specs.Span.{Span}
+use Rattle.czi_format.specs.Span.{Span, end_of}
 use Rattle.czi_image.specs.Holds.{tile_place, directory_place}
 use Rattle.czi_image.specs.View.{tile_of}
 use Rattle.czi_image.specs.declared.index.Index.{Index}
@@ -56,7 +56,11 @@ pub record Removes (x : Index) (m : MapState) (i : ℕ) (es : List Entry) (regio
   pub span : Span
   pub space : Space
   pub fits : fit (space_of m) (directory_need es) ≡ Ok (record { span = span; space = space })
+  pub far : 112 ≤ span.at
+  pub inside : end_of span ≤ p.length
   pub length : p.length ≡ space.length
+  pub small : p.length ≤ 2 ^ 62
+  pub entries : AllByRecursion IsEntry es
   pub used : map span_of p.used.items ≡ span ∷ []
   pub freed : map span_of p.freed.items ≡ freed_of (removed_places i x)
   pub segment : PutsSegment (pieces_of region p) (directory_at span.at es).segment (data_in (round32 (directory_size es)) es)
