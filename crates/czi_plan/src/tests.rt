@@ -258,7 +258,8 @@ fn the_other_subblocks_stay(rt: HostRuntime) -> Result<(), Fail> {
             [Span { at: 1824, len: 288 }].as_slice()
         );
         assert_eq!(rt; plan.length, 2112);
-        assert_eq!(rt; (bytes.len(), bytes[0]), (256, 2));
+        assert_eq!(rt; bytes.len(), 256);
+        assert_eq!(rt; bytes[0], 2);
         assert_eq!(rt; (bytes[134], bytes[135]), first);
         assert_eq!(rt; (bytes[186], bytes[187]), second);
         assert_eq!(rt; bytes[232..].iter().all(|b| *b == 0), true);
