@@ -1,5 +1,5 @@
 -- Entries that are written one behind another.
-use Rattle.std.proofs.Common.{◌≡◌, ℕ, zero, suc, ◌+◌, ◌-◌, ◌<◌, ◌≤◌, pos, List, [], ◌∷◌, ◌++◌, map, take, drop, get_or, length, sum, replicate, refl, ap, sym, ◌∙◌, subst, arith, append-nil, length-append}
+use Rattle.std.proofs.Common.{◌≡◌, ℕ, ◌+◌, ◌-◌, ◌<◌, ◌≤◌, pos, List, [], ◌∷◌, ◌++◌, map, take, drop, get_or, length, sum, replicate, ap, sym, ◌∙◌, subst, arith, append-nil, length-append}
 use Rattle.std.specs.List.{AllByRecursion, flat_map}
 use Rattle.std.proofs.Math.Seq.{take-append_seam, drop-append_seam}
 use Rattle.std.proofs.lemmas.List.Sums.{sum_by-append, sum_by-cons}
@@ -9,9 +9,8 @@ use Rattle.czi_format.specs.Contents.{directory_head}
 use Rattle.czi_format.specs.Entry.{Entry, IsEntry, entry_len, entry_bytes}
 use Rattle.czi_image.specs.View.{tile_of}
 use Rattle.czi_image.specs.declared.types.Tile.{Tile}
-use Rattle.czi_machine.specs.Data.{directory_data}
 use Rattle.czi_plan.specs.Directory.{entries_of, directory_size, data_in}
-use Rattle.czi_plan.proofs.Lists.{drop_here, take_here, assoc, map_append, flat_append, take_end, drop_end, all_append}
+use Rattle.czi_plan.proofs.Lists.{drop_here, take_here, assoc, map_append, flat_append, drop_end, all_append}
 
 pub entries_here : (tiles : List Tile) (i : ℕ) (t : Tile) → i < length tiles → t ≡ get_or tiles i t → entries_of (drop i tiles) ≡ entries_of (t ∷ drop (i + 1) tiles)
 entries_here tiles i t h e = ap entries_of (drop_here tiles i t h e)

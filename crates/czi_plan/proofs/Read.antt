@@ -1,22 +1,20 @@
 -- What is read where the plan of a removal was written.
-use Rattle.std.proofs.Common.{◌≡◌, ◌⊎◌, ℕ, zero, suc, ◌+◌, ◌-◌, ◌*◌, ◌<◌, ◌≤◌, ◌^◌, pos, List, [], ◌∷◌, ◌++◌, map, length, true, false, ◌&&◌, nat_le, Option, Some, None, option_map, Result, Ok, refl, ap, sym, ◌∙◌, subst, arith}
+use Rattle.std.proofs.Common.{◌≡◌, ℕ, zero, suc, ◌+◌, ◌-◌, ◌≤◌, ◌^◌, List, [], ◌∷◌, ◌++◌, map, length, Option, Some, None, Ok, refl, ap, sym, ◌∙◌, subst, arith}
 use Rattle.std.specs.List.{AllByRecursion}
 use Rattle.std.proofs.lemmas.List.{length-map}
-use Rattle.std.proofs.lemmas.Bool.{and_parts, leb-true}
-use Rattle.czi_format.specs.Entry.{Entry, IsEntry}
+use Rattle.czi_format.specs.Entry.{Entry}
 use Rattle.czi_format.specs.Layout.{Layout}
-use Rattle.czi_format.specs.Live.{Live, Tile, Directory, AttItem, has_header_sizes, front_header, file_header}
-use Rattle.czi_format.specs.Segment.{Segment, extent, header_bytes, directory_id}
+use Rattle.czi_format.specs.Live.{Live, Tile, Directory}
+use Rattle.czi_format.specs.Segment.{extent, header_bytes, directory_id}
 use Rattle.czi_format.specs.Shows.{Reaches, subblock_at}
 use Rattle.czi_format.specs.Space.{deleted_after}
-use Rattle.czi_format.specs.Span.{Span, end_of, round32}
+use Rattle.czi_format.specs.Span.{Span, round32}
 use Rattle.czi_image.specs.Holds.{Holds, lies_at, extent_of}
 use Rattle.czi_image.specs.Spans.{directory_span}
 use Rattle.czi_image.specs.View.{tile_of}
 use Rattle.czi_image.specs.declared.index.Index.{Index}
 use Rattle.czi_image.specs.declared.types.DirItem.{DirItem}
-use Rattle.czi_image.specs.declared.types.Tile.{Tile as CodeTile}
-use Rattle.czi_machine.specs.Change.{out, changed, brought}
+use Rattle.czi_machine.specs.Change.{out, brought}
 use Rattle.czi_machine.specs.Puts.{StandsWith, HasRoom}
 use Rattle.czi_machine.specs.Writes.{ReadsNew, Writes, WritesAround, WritesIn, PutsDeleted, deleted_segment, dead}
 use Rattle.czi_machine.specs.Written.{Piece, Puts, Wrote}

@@ -1,5 +1,5 @@
 -- An image into which the plan of a removal was written.
-use Rattle.std.specs.Prelude.{◌≡◌, ℕ, ◌<◌, ◌^◌, List, length}
+use Rattle.std.specs.Prelude.{◌≡◌, ℕ, List, length}
 use Rattle.czi_format.specs.Layout.{Layout}
 use Rattle.czi_format.specs.Live.{Live}
 use Rattle.czi_format.specs.Shows.{Reaches}

@@ -1,4 +1,4 @@
-use Rattle.std.proofs.Common.{◌≡◌, ℕ, ◌+◌, ◌≤◌, take, length, replicate, ap, sym, ◌∙◌, arith, drop, length-append}
+use Rattle.std.proofs.Common.{◌≡◌, ℕ, ◌+◌, ◌≤◌, take, length, replicate, ap, ◌∙◌, arith, drop, length-append}
 use Rattle.std.proofs.lemmas.List.{length-replicate}
 use Rattle.czi_region.specs.Pieces.{bytes_put}
 use Rattle.czi_plan.specs.Directory.{entries_of, data_in}

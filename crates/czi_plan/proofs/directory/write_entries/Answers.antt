@@ -1,6 +1,5 @@
-use Rattle.std.proofs.Common.{◌≡◌, ℕ, pos, ◌+◌, ◌-◌, ◌≤◌, List, ◌∷◌, ◌++◌, map, sum, take, drop, length, flat_map, ap, sym, ◌∙◌, arith, subst}
-use Rattle.czi_format.specs.Entry.{Entry, entry_len, entry_bytes}
-use Rattle.czi_doc.specs.View.{info_of}
+use Rattle.std.proofs.Common.{◌≡◌, ℕ, ◌+◌, ◌-◌, List, length, ◌∙◌, arith, subst}
+use Rattle.czi_format.specs.Entry.{entry_bytes}
 use Rattle.czi_image.specs.View.{tile_of}
 use Rattle.czi_plan.specs.Directory.{entries_of}
 use Rattle.std.specs.List.{AllByRecursion}

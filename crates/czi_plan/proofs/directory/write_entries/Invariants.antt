@@ -1,4 +1,4 @@
-use Rattle.std.proofs.Common.{◌≡◌, ◌+◌, ◌++◌, length, ◌≤◌, map, sum, take, drop, flat_map}
+use Rattle.std.proofs.Common.{◌≡◌, ◌+◌, ◌++◌, length, map, sum, take, drop, flat_map}
 use Rattle.czi_format.specs.Entry.{IsEntry, entry_len, entry_bytes}
 use Rattle.std.specs.List.{AllByRecursion}
 use Rattle.czi_plan.specs.Directory.{entries_of}

@@ -1,4 +1,4 @@
-use Rattle.std.proofs.Common.{◌≡◌, arith}
+use Rattle.std.proofs.Common.{arith}
 use Rattle.czi_format.proofs.Limits.{entry_is}
 use Rattle.czi_plan.proofs.directory.write_tile.Goals as goal
 

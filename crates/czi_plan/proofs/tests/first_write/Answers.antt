@@ -1,4 +1,4 @@
-use Rattle.std.proofs.Common.{◌≡◌, ℕ, ◌<◌, List, length, get_or, ap, sym, ◌∙◌, subst, arith}
+use Rattle.std.proofs.Common.{ℕ, sym, subst, arith}
 use Rattle.std.specs.List.{AllByRecursion}
 use Rattle.czi_region.specs.Pieces.{IsPiece}
 use Rattle.czi_region.specs.declared.block.Piece.{Piece}

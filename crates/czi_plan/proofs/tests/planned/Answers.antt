@@ -1,4 +1,4 @@
-use Rattle.std.proofs.Common.{◌≡◌, ℕ, List, map, Some, ap, sym, ◌∙◌}
+use Rattle.std.proofs.Common.{◌≡◌, List, map, Some, ap, sym, ◌∙◌}
 use Rattle.czi_doc.specs.View.{dims_of}
 use Rattle.czi_image.specs.View.{tile_of}
 use Rattle.czi_image.specs.declared.types.Tile.{Tile}
