@@ -1,10 +1,10 @@
 -- Where a command writes nothing: into segments that it keeps, and into the file header but for its pointers.
-use Rattle.std.proofs.Common.{◌≡◌, ℕ, ◌+◌, ◌≤◌, ◌<◌, pos, List, [], ◌∷◌, ◌++◌, map, length, true, Option, Some, None, option_map, option_to_list, refl, ap, sym, ◌∙◌, arith, inl, inr, ◌⊎◌, subst}
+use Rattle.std.proofs.Common.{◌≡◌, ℕ, ◌+◌, ◌≤◌, ◌<◌, pos, List, [], ◌∷◌, ◌++◌, map, length, true, Option, Some, None, option_map, option_to_list, refl, ap, sym, ◌∙◌, arith, inl, inr}
 use Rattle.std.specs.List.{AllByRecursion}
 use Rattle.std.proofs.lemmas.Bool.{cases_lt}
 use Rattle.std.proofs.lemmas.List.{map-append}
 use Rattle.czi_format.specs.Bytes.{bytes_at}
-use Rattle.czi_format.specs.Live.{Live, FileHeader, Directory, Tile, AttItem, MetaItem, segments, reached}
+use Rattle.czi_format.specs.Live.{Live, Directory, Tile, AttItem, MetaItem, segments, reached}
 use Rattle.czi_format.specs.Same.{SameExtent}
 use Rattle.czi_format.specs.Segment.{Segment, segment_at, extent, file_id}
 use Rattle.czi_format.specs.Shows.{Reaches}
@@ -13,9 +13,9 @@ use Rattle.czi_format.specs.Walk.{stands_at, is_name}
 use Rattle.czi_format.proofs.Local.{All-append, header_is}
 use Rattle.czi_format.proofs.Readings.{bind_some, given_some, is_sound, segment_stands}
 use Rattle.czi_machine.specs.Change.{Act, changed, kept, brought, Setting, same, to, set, set_new, set_kept}
-use Rattle.czi_machine.specs.Cover.{between, cover, IsWhole}
+use Rattle.czi_machine.specs.Cover.{between, cover}
 use Rattle.czi_machine.specs.Turn.{Turn, turned, new_segments, kept_segments}
-use Rattle.czi_machine.specs.Writes.{head, writable, WritesIn}
+use Rattle.czi_machine.specs.Writes.{head, IsLong, AreOnce, writable, WritesIn}
 use Rattle.czi_machine.specs.Written.{Piece, byte_of, IsClear, Wrote}
 use Rattle.czi_machine.proofs.Changing.{All-kept, cover-changed}
 use Rattle.czi_machine.proofs.Cover.{between_in, between_low, between_high, cover-append}
@@ -24,7 +24,7 @@ use Rattle.czi_machine.proofs.Outside.{places_among}
 use Rattle.czi_machine.proofs.Over.{clear_bytes}
 use Rattle.czi_machine.proofs.Restated.{stands_inside, stands_same_header}
 use Rattle.czi_machine.proofs.Steady.{on_all}
-use Rattle.czi_machine.proofs.Tiled.{All-both, All-map, map-All, All-weaken, between_one}
+use Rattle.czi_machine.proofs.Tiled.{All-both, All-map, map-All, between_one}
 
 pub map-map : {X Y Z : Type 0} (f : X → Y) (g : Y → Z) (xs : List X) → map g (map f xs) ≡ map (λ x. g (f x)) xs
 map-map f g [] = refl
@@ -90,15 +90,6 @@ kept_have P live t all =
     (All-both P (map i (kept t.tiles live.tiles)) _ (All-listed P i t.tiles live.tiles two.0)
     (All-both P (option_to_list (option_map d (set_kept t.attdir live.attdir))) _ (All-set P d t.attdir live.attdir th.0)
     (All-both P (map a (kept t.attachments live.attachments)) _ (All-listed P a t.attachments live.attachments four.0) (All-set P m t.metadata live.metadata four.1))))
-
--- a span that has room for a header
-abbrev pub IsLong : Span → Type 0
-IsLong e = 32 ≤ e.len
-
--- What is live afterwards, and some other spans, have no place twice.
-pub record AreOnce (live : Live) (t : Turn) (marks : List Span) : Type 0 where
-  pub once : (p : ℕ) → cover (map extent (segments (turned t live))) p + cover marks p ≤ 1
-  pub long : AllByRecursion IsLong marks
 
 pub heads_within : (es : List Span) (p : ℕ) → AllByRecursion IsLong es → cover (map head es) p ≤ cover es p
 heads_within [] p all = omega arith

@@ -1,11 +1,11 @@
 -- The law of commands over bytes: an image into which a command was written shows the document of the state to which the
 -- command leads, has that state's layout, and is steady. And the bytes of held spans are kept.
-use Rattle.std.proofs.Common.{◌≡◌, ℕ, ◌+◌, ◌-◌, ◌%◌, ◌≤◌, ◌<◌, ◌^◌, pos, List, [], ◌∷◌, ◌++◌, map, length, true, not, Option, Some, None, option_map, option_to_list, refl, ap, sym, ◌∙◌, arith, subst, ◌⊎◌, inl, inr, bytes_eq, length-append}
+use Rattle.std.proofs.Common.{◌≡◌, ℕ, ◌+◌, ◌-◌, ◌≤◌, ◌<◌, ◌^◌, pos, List, [], ◌∷◌, ◌++◌, map, length, true, not, Some, refl, ap, sym, ◌∙◌, arith, subst, inl, inr, bytes_eq, length-append}
 use Rattle.std.specs.List.{AllByRecursion, filter, list_any}
 use Rattle.std.proofs.lemmas.Bool.{cases_lt, cases_Bool}
 use Rattle.czi_format.specs.Bytes.{bytes_at, i64_bytes}
-use Rattle.czi_format.specs.Layout.{Place, Layout, HasLayout, IsSteady}
-use Rattle.czi_format.specs.Live.{Live, FileHeader, segments, document}
+use Rattle.czi_format.specs.Layout.{Place, Layout, HasLayout}
+use Rattle.czi_format.specs.Live.{Live, segments}
 use Rattle.czi_format.specs.Segment.{Segment, segment_at, extent, header_bytes, deleted_id}
 use Rattle.czi_format.specs.Shows.{Reaches}
 use Rattle.czi_format.specs.Space.{same_span}
@@ -16,15 +16,16 @@ use Rattle.czi_machine.specs.Cover.{between, cover, Chained, IsWhole, LiesInOne}
 use Rattle.czi_machine.specs.Edit.{after}
 use Rattle.czi_machine.specs.Laws.{Leads, Lies}
 use Rattle.czi_machine.specs.Places.{can_be_used, live_places}
-use Rattle.czi_machine.specs.Sound.{all_places, live_spans, IsExact, IsSound}
+use Rattle.czi_machine.specs.Sound.{live_spans, IsExact, IsSound}
 use Rattle.czi_machine.specs.State.{State, held, spans_of, not_among}
-use Rattle.czi_machine.specs.Tiled.{IsRising, IsTiled, here, tiled_layout, all_segments}
-use Rattle.czi_machine.specs.Turn.{Turn, turned, new_segments, effect_of, LiesAt}
-use Rattle.czi_machine.specs.Writes.{head, deleted_segment, PutsDeleted, dead, marked, Writes}
-use Rattle.czi_machine.specs.Written.{Piece, byte_of, Puts, IsClear, Wrote}
-use Rattle.czi_machine.proofs.Clear.{HeaderAt, AreOnce, header_at_front, segment_clear, stands_still, IsLong, turned_cover, nothing_written, heads_within}
-use Rattle.czi_machine.proofs.Cover.{between_in, between_low, between_high, cover-append}
-use Rattle.czi_machine.proofs.Exact.{in_one_covers, usable_places}
+use Rattle.czi_machine.specs.Tiled.{IsTiled, here, tiled_layout}
+use Rattle.czi_machine.specs.Turn.{Turn, turned, effect_of, LiesAt}
+use Rattle.czi_machine.specs.Writes.{head, deleted_segment, IsLong, AreOnce, PutsDeleted, dead, marked, Writes}
+use Rattle.czi_machine.specs.Written.{Piece, IsClear, Wrote}
+use Rattle.czi_machine.proofs.Clear.{HeaderAt, header_at_front, segment_clear, stands_still, turned_cover, nothing_written, heads_within}
+use Rattle.czi_machine.proofs.Cover.{between_in, between_high}
+use Rattle.czi_machine.proofs.Exact.{sound_tidy, usable_places}
+use Rattle.czi_machine.proofs.Placing.{in_one_covers, covers_own}
 use Rattle.czi_machine.proofs.Keeps.{whole_aligned}
 use Rattle.czi_machine.proofs.Leaving.{same_is}
 use Rattle.czi_machine.proofs.Led.{Led, led}
@@ -34,8 +35,7 @@ use Rattle.czi_machine.proofs.Outside.{places_among}
 use Rattle.czi_machine.proofs.Over.{put_bytes, clear_bytes}
 use Rattle.czi_machine.proofs.Shown.{reaches_turned, document_turned}
 use Rattle.czi_machine.proofs.Steady.{on_all}
-use Rattle.czi_machine.proofs.Steps.{covers_own}
-use Rattle.czi_machine.proofs.Tiled.{All-both, All-map, map-All, All-weaken, between_one, parts, tiled, cover-all_segments, chained_rising}
+use Rattle.czi_machine.proofs.Tiled.{All-both, All-map, All-weaken, between_one, parts, tiled, cover-all_segments, chained_rising}
 
 deleted_named : is_name deleted_id ≡ true
 unfolding deleted_id
@@ -140,9 +140,10 @@ pub record Written (image other : List ℕ) (live : Live) (s s' : State) (t : Tu
 pub was_written : (image other : List ℕ) (s s' : State) (live : Live) (t : Turn) (pieces : List Piece) → Lies image live s → IsSound s → Leads s s' → LiesAt s'.layout (turned t live)
     → Written image other live s s' t pieces
 was_written image other s s' live t pieces lies is leads at =
-    let l : Led s s' = led s s' is leads in
+    let l : Led s s' = led s s' (sound_tidy s is) leads in
+    let sound : IsSound s' = l.sound is in
     let tl : Tiling image live s = tiling image live s lies in
-    let exact : IsExact s'.layout = l.sound.layout in
+    let exact : IsExact s'.layout = sound.layout in
     let header : s'.layout.header ≡ here live.header.segment = ap (λ (z : Layout). z.header) l.layout ∙ ap (λ (z : Layout). z.header) tl.layout in
     let unknown : s'.layout.unknown ≡ map extent tl.unknown = ap (λ (z : Layout). z.unknown) l.layout ∙ ap (λ (z : Layout). z.unknown) tl.layout in
     let spans : live_spans s'.layout ≡ map extent (segments (turned t live)) = λ i. (header i).span ∷ lying_spans s'.layout (turned t live) at i in
@@ -151,7 +152,7 @@ was_written image other s s' live t pieces lies is leads at =
     let marks : marked s.layout s'.layout ≡ s'.layout.deleted = ap (λ z. s'.layout.deleted ++ z) (nothing_dead s.layout s'.layout is.layout) ∙ nil_right s'.layout.deleted in
     record {
       tiles = tl;
-      sound = l.sound;
+      sound = sound;
       total = total;
       marks = marks;
       once = record { once = λ p. omega (arith, total p, between_one 0 s'.layout.length p, ap (λ z. cover z p) marks); long = subst (AllByRecursion IsLong) (sym marks) (whole_long s'.layout.deleted exact.deleted_whole) };
@@ -260,7 +261,7 @@ commanded image other s s' live t pieces lies is leads at document_is w =
     }
 
 -- the headers of DELETED extents have no place of a span in one of them past its first 32 bytes
-heads_clear : (h : Span) (es : List Span) (q : ℕ) → LiesInOne h es → AllByRecursion IsWhole es → cover es q ≤ 1 → h.at + 32 ≤ q → q < end_of h → cover (map head es) q ≡ 0
+pub heads_clear : (h : Span) (es : List Span) (q : ℕ) → LiesInOne h es → AllByRecursion IsWhole es → cover es q ≤ 1 → h.at + 32 ≤ q → q < end_of h → cover (map head es) q ≡ 0
 heads_clear h [] q none whole few low high = absurd none
 heads_clear h (e ∷ es) q (inl i) whole few low high =
     omega (arith, few, heads_within es q (whole_long es whole.1), between_in e.at (end_of e) q (omega (arith, i.0, low)) (omega (arith, i.1, high)), between_high e.at (e.at + 32) q (omega (arith, i.0, low)))
@@ -290,11 +291,13 @@ held_kept image other s s' live t pieces lies is leads at w =
     (λ h b i.
     let long : 32 ≤ h.len = omega (arith, b.0.len, b.0.some) in
     let places : (q : ℕ) → h.at ≤ q → q < end_of h → (112 ≤ q) × (cover D q ≡ 1) = λ q low high.
-    let here : cover D q ≡ 1 = omega (arith, k.once.once q, ap (λ z. cover z q) k.marks, in_one_covers h D q i, between_in h.at (end_of h) q low high) in
-    (elim (cases_lt q 112) [
-      | inl l ↦ absurd (omega (arith, here, k.once.once q, ap (λ z. cover z q) k.marks, turned_cover live t q, between_in H.at (end_of (extent H)) q (omega (arith, front.place)) (omega (arith, front.place, front.large, l))))
-      | inr l ↦ l
-    ], here) in
+    let here : cover D q ≡ 1 = omega (arith, k.once.once q, ap (λ z. cover z q) k.marks, in_one_covers h D q i, between_in h.at (end_of h) q low high) in (
+      elim (cases_lt q 112) [
+        | inl l ↦ absurd (omega (arith, here, k.once.once q, ap (λ z. cover z q) k.marks, turned_cover live t q, between_in H.at (end_of (extent H)) q (omega (arith, front.place)) (omega (arith, front.place, front.large, l))))
+        | inr l ↦ l
+      ],
+      here,
+    ) in
     let off : 112 ≤ h.at = (places h.at (omega arith) (omega (arith, b.0.some))).0 in
     let clear : IsClear pieces (h.at + 32) (h.at + 32 + (h.len - 32)) = λ q low high.
     let at' = places q (omega (arith, low)) (omega (arith, high, long)) in

@@ -29,7 +29,7 @@ left_of_whole t s wt ws = elim (cases_Bool (meets t s)) [
   | inr e ↦ rw e (ws, tt)
 ]
 
-all_left_whole : (t : Span) (spans : List Span) → IsWhole t → AllByRecursion IsWhole spans → AllByRecursion IsWhole (flat_map (left_of t) spans)
+pub all_left_whole : (t : Span) (spans : List Span) → IsWhole t → AllByRecursion IsWhole spans → AllByRecursion IsWhole (flat_map (left_of t) spans)
 all_left_whole t [] wt all = tt
 all_left_whole t (s ∷ spans) wt all = All-both IsWhole (left_of t s) (flat_map (left_of t) spans) (left_of_whole t s wt all.0) (all_left_whole t spans wt all.1)
 
@@ -163,4 +163,14 @@ pub deleted_after_chained : (used freed deleted : List Span) → AllByRecursion 
     → ((p : ℕ) → cover freed p + cover (without used deleted) p ≤ 1) → Chained 0 deleted → Chained 0 (deleted_after used freed deleted)
 deleted_after_chained used freed deleted a b c once chained =
     with_all_chained (sorted span_le freed) (without used deleted) (All-sorted IsWhole freed b) (without_whole used deleted a c)
+    (λ p. omega (arith, once p, cover-sorted freed p)) (without_chained used deleted 0 chained)
+
+-- the same where what is used needn't begin and end at multiples of 32
+pub deleted_after_whole_from : (used freed deleted : List Span) → AllByRecursion IsWhole (without used deleted) → AllByRecursion IsWhole freed → AllByRecursion IsWhole (deleted_after used freed deleted)
+deleted_after_whole_from used freed deleted a b = with_all_whole (sorted span_le freed) (without used deleted) (All-sorted IsWhole freed b) a
+
+pub deleted_after_chained_from : (used freed deleted : List Span) → AllByRecursion IsWhole (without used deleted) → AllByRecursion IsWhole freed
+    → ((p : ℕ) → cover freed p + cover (without used deleted) p ≤ 1) → Chained 0 deleted → Chained 0 (deleted_after used freed deleted)
+deleted_after_chained_from used freed deleted a b once chained =
+    with_all_chained (sorted span_le freed) (without used deleted) (All-sorted IsWhole freed b) a
     (λ p. omega (arith, once p, cover-sorted freed p)) (without_chained used deleted 0 chained)

@@ -1,54 +1,64 @@
--- To which state a command leads: what was placed, and that the state is sound.
-use Rattle.std.proofs.Common.{◌≡◌, ℕ, ◌≤◌, List, [], ◌∷◌, map, Result, Ok, Err, refl, ap, sym, ◌∙◌, arith, subst, ◌⊎◌, inl, inr}
+-- To which state a command leads: what was placed, and that the state is tidy, or sound.
+use Rattle.std.proofs.Common.{◌≡◌, ℕ, ◌+◌, ◌≤◌, List, [], ◌∷◌, Result, Ok, Err, refl, ap, ◌∙◌, arith, subst, true, ◌⊎◌, inl, inr}
 use Rattle.czi_format.specs.FirstFault.{with_fault}
-use Rattle.czi_format.specs.Layout.{Layout}
-use Rattle.czi_format.specs.Space.{Full}
+use Rattle.std.specs.List.{AllByRecursion, list_any}
+use Rattle.czi_format.specs.Space.{same_span}
+use Rattle.czi_format.specs.Span.{Span, end_of}
 use Rattle.czi_format.proofs.Rules.{on_ok}
-use Rattle.czi_machine.specs.Cover.{cover}
-use Rattle.czi_machine.specs.Edit.{Edit, DocumentEffect, Refusal, effect, after}
+use Rattle.czi_machine.specs.Cover.{between, cover}
+use Rattle.czi_machine.specs.Edit.{Edit, DocumentEffect, effect, after}
 use Rattle.czi_machine.specs.Laws.{Leads}
-use Rattle.czi_machine.specs.Machine.{after_edit, after_undo, after_undo_of, as_refusal, edited, restored}
-use Rattle.czi_machine.specs.Places.{Next, Placed, edit_next, undo_next, placed, laid, relaid, space_of}
-use Rattle.czi_machine.specs.Sound.{IsSound}
-use Rattle.czi_machine.specs.State.{Former, State, held}
-use Rattle.czi_machine.proofs.Exact.{IsNext, Placing, placing}
-use Rattle.czi_machine.proofs.Sound.{edit_is_next, undo_is_next}
-use Rattle.czi_machine.proofs.Steps.{sound_edited, sound_restored, held_edited, held_restored}
+use Rattle.czi_machine.specs.Machine.{after_effect, after_edit, after_undo, after_undo_of, as_refusal, edited, restored}
+use Rattle.czi_machine.specs.Places.{Next, Placed, edit_next, undo_next, placed, laid, relaid, live_places, space_of}
+use Rattle.czi_machine.specs.Sound.{live_spans, IsTidy, IsSound}
+use Rattle.czi_machine.specs.State.{Former, State, held, spans_of}
+use Rattle.czi_machine.specs.Writes.{dead}
+use Rattle.czi_machine.proofs.Exact.{sound_tidy}
+use Rattle.czi_machine.proofs.Nexts.{edit_is_next, undo_is_next}
+use Rattle.czi_machine.proofs.Placing.{IsNext, Placing, placing}
+use Rattle.czi_machine.proofs.Steps.{sound_edited, sound_restored}
+use Rattle.czi_machine.proofs.Tidy.{tidy_edited, tidy_restored, held_edited, held_restored, edited_from, restored_from, marked_once}
 
 pub record Led (s s' : State) : Type 0 where
   pub next : Next
   pub placed : Placed
   pub layout : s'.layout ≡ relaid s.layout next placed
   pub longer : s.layout.length ≤ s'.layout.length
-  pub sound : IsSound s'
+  pub tidy : IsTidy s'
+  pub sound : IsSound s → IsSound s'
+  pub held_from : AllByRecursion (λ (h : Span). (list_any (same_span h) (spans_of (live_places s.layout)) ≡ true) ⊎ ((p : ℕ) → between h.at (end_of h) p ≤ cover (held s) p)) (held s')
   pub held_before : (p : ℕ) → s.layout.length ≤ p → cover (held s') p ≡ 0
+  pub marks : (p : ℕ) → cover (live_spans s'.layout) p + (cover s'.layout.deleted p + cover (dead s.layout s'.layout) p) ≤ 1
 
-no_fault : {A D E : Type 0} (f : D → E) (r : Result A D) (x : A) → with_fault f r ≡ Ok x → r ≡ Ok x
+pub no_fault : {A D E : Type 0} (f : D → E) (r : Result A D) (x : A) → with_fault f r ≡ Ok x → r ≡ Ok x
 no_fault f (Ok y) x e = let same : y ≡ x = cc (e) in ap Ok same
 no_fault f (Err y) x e = absurd (cc (e))
 
-result_is : {A E : Type 0} (a b : A) → (let r : Result A E = Ok a in r) ≡ Ok b → a ≡ b
+pub result_is : {A E : Type 0} (a b : A) → (let r : Result A E = Ok a in r) ≡ Ok b → a ≡ b
 result_is a b e = cc
 
-pub edit_led : (s s' : State) (c : Edit) → IsSound s → after_edit s c ≡ Ok s' → Led s s'
-edit_led s s' c is e =
-    on_ok (effect s.document c) _ s' e λ f f_is more.
-    on_ok (with_fault as_refusal (laid s (edit_next s f))) _ s' more λ l l_is done.
+pub effect_led : (s s' : State) (f : DocumentEffect) → IsTidy s → after_effect s f ≡ Ok s' → Led s s'
+effect_led s s' f is e =
+    on_ok (with_fault as_refusal (laid s (edit_next s f))) _ s' e λ l l_is done.
     on_ok (placed s.layout (space_of s) (edit_next s f)) _ l (no_fault as_refusal (laid s (edit_next s f)) l l_is) λ pl pl_is laid_is.
     let n : Next = edit_next s f in
     let its : relaid s.layout n pl ≡ l = result_is (relaid s.layout n pl) l laid_is in
     let whole : edited s (after f s.document) (relaid s.layout n pl) ≡ s' = ap (edited s (after f s.document)) its ∙ result_is _ s' done in
-    let at : Placing s n pl = placing s n pl is (edit_is_next s f is) pl_is in
+    let nx : IsNext s n = edit_is_next s f is in
+    let at : Placing s n pl = placing s n pl is nx pl_is in
     subst (Led s) whole (record {
       next = n;
       placed = pl;
       layout = refl;
       longer = omega (arith, at.uses.longer, at.length);
-      sound = sound_edited s f (after f s.document) pl is pl_is;
+      tidy = tidy_edited s f (after f s.document) pl is pl_is;
+      sound = λ sound. sound_edited s f (after f s.document) pl sound pl_is;
+      held_from = edited_from s (after f s.document) (relaid s.layout n pl);
       held_before = λ p h. held_edited s (after f s.document) (relaid s.layout n pl) p is h;
+      marks = λ p. marked_once s n pl p is nx at;
     })
 
-pub undo_led : (s s' : State) → IsSound s → after_undo s ≡ Ok s' → Led s s'
+pub undo_led : (s s' : State) → IsTidy s → after_undo s ≡ Ok s' → Led s s'
 undo_led s s' is e = on_formers s.formers refl e
   where
     on_formers : (formers : List Former) → s.formers ≡ formers → after_undo_of s formers ≡ Ok s' → Led s s'
@@ -59,18 +69,28 @@ undo_led s s' is e = on_formers s.formers refl e
         let n : Next = undo_next s f in
         let its : relaid s.layout n pl ≡ l = result_is (relaid s.layout n pl) l laid_is in
         let whole : restored s f formers (relaid s.layout n pl) ≡ s' = ap (restored s f formers) its ∙ result_is _ s' done in
-        let at : Placing s n pl = placing s n pl is (undo_is_next s f formers is newest) pl_is in
+        let nx : IsNext s n = undo_is_next s f formers is newest in
+        let at : Placing s n pl = placing s n pl is nx pl_is in
         subst (Led s) whole (record {
           next = n;
           placed = pl;
           layout = refl;
           longer = omega (arith, at.uses.longer, at.length);
-          sound = sound_restored s f formers pl is newest pl_is;
+          tidy = tidy_restored s f formers pl is newest pl_is;
+          sound = λ sound. sound_restored s f formers pl sound newest pl_is;
+          held_from = restored_from s f formers pl is newest pl_is;
           held_before = λ p h. held_restored s f formers pl p is newest pl_is h;
+          marks = λ p. marked_once s n pl p is nx at;
         })
 
-pub led : (s s' : State) → IsSound s → Leads s s' → Led s s'
-led s s' is leads = elim leads [ inl c ↦ edit_led s s' c.0 is c.1 | inr u ↦ undo_led s s' is u ]
+pub edits_lead : (s s' : State) (c : Edit) → after_edit s c ≡ Ok s' → Leads s s'
+edits_lead s s' c goes = on_ok (effect s.document c) _ s' goes λ e e_is more. inl (e, more)
+
+pub led : (s s' : State) → IsTidy s → Leads s s' → Led s s'
+led s s' is leads = elim leads [ inl c ↦ effect_led s s' c.0 is c.1 | inr u ↦ undo_led s s' is u ]
 
 pub stays_sound : (s s' : State) → IsSound s → Leads s s' → IsSound s'
-stays_sound s s' is leads = (led s s' is leads).sound
+stays_sound s s' is leads = (led s s' (sound_tidy s is) leads).sound is
+
+pub stays_tidy : (s s' : State) → IsTidy s → Leads s s' → IsTidy s'
+stays_tidy s s' is leads = (led s s' is leads).tidy

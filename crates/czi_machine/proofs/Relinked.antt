@@ -1,19 +1,18 @@
 -- A file header whose pointers have changed.
-use Rattle.std.proofs.Common.{◌≡◌, ℕ, zero, suc, ◌+◌, ◌≤◌, ◌<◌, ℤ, pos, List, length, Option, Some, None, option_map, refl, ap, sym, ◌∙◌, arith, inl, inr, ◌⊎◌, subst}
+use Rattle.std.proofs.Common.{◌≡◌, ℕ, ◌+◌, ◌≤◌, ℤ, pos, List, length, Some, None, ap, sym, ◌∙◌, arith, inl, inr, ◌⊎◌, subst}
 use Rattle.czi_format.specs.Bytes.{bytes_at, i32_at, i64_at, i64_bytes}
 use Rattle.czi_format.specs.Live.{Live, FileHeader, file_header, Directory, MetaItem}
-use Rattle.czi_format.specs.Partial.{none_or}
 use Rattle.czi_format.specs.Segment.{Segment, header_at}
 use Rattle.czi_format.specs.Shows.{Reaches}
 use Rattle.czi_format.specs.Span.{Span}
 use Rattle.czi_format.proofs.Local.{i32_same, i64_same, same_part, header_is, header_fronts, fronts_header}
 use Rattle.czi_format.proofs.Readings.{IsHeader, header_is_read, read_header_is}
 use Rattle.czi_machine.specs.Change.{Setting, same, to}
-use Rattle.czi_machine.specs.Turn.{Turn, turned, position_of, pointer}
-use Rattle.czi_machine.specs.Writes.{PutsPointer, WritesIn}
-use Rattle.czi_machine.specs.Written.{Piece, IsClear, Puts, Wrote}
-use Rattle.czi_machine.proofs.Clear.{HeaderAt, AreOnce, header_at_front, header_clear}
-use Rattle.czi_machine.proofs.Cover.{between_low, between_high}
+use Rattle.czi_machine.specs.Turn.{Turn, turned, pointer}
+use Rattle.czi_machine.specs.Writes.{PutsPointer, AreOnce, WritesIn}
+use Rattle.czi_machine.specs.Written.{Piece, Wrote}
+use Rattle.czi_machine.proofs.Clear.{HeaderAt, header_at_front, header_clear}
+use Rattle.czi_machine.proofs.Cover.{between_low}
 use Rattle.czi_machine.proofs.Over.{put_bytes, clear_bytes}
 use Rattle.czi_machine.proofs.Restated.{same_front, i64_of_bytes}
 

@@ -1,32 +1,30 @@
 -- What an image shows into which a command was written. Nothing is said of its walk, nor asked of the walk of the image
 -- before.
-use Rattle.std.proofs.Common.{◌≡◌, ℕ, zero, suc, ◌+◌, ◌≤◌, ◌<◌, ◌^◌, max, min, ℤ, pos, List, [], ◌∷◌, ◌++◌, map, length, false, Option, Some, None, Ok, option_map, option_to_list, refl, ap, sym, ◌∙◌, arith, inl, inr, subst}
+use Rattle.std.proofs.Common.{◌≡◌, ℕ, zero, suc, ◌+◌, ◌≤◌, ◌<◌, ◌^◌, max, min, ℤ, pos, List, [], ◌∷◌, map, length, false, Option, Some, None, Ok, option_map, option_to_list, refl, ap, sym, ◌∙◌, arith, inl, inr}
 use Rattle.std.specs.List.{AllByRecursion}
 use Rattle.std.proofs.lemmas.Bool.{le-ltb, cases_lt}
-use Rattle.czi_format.specs.Document.{Subblock, Attachment, Metadata}
-use Rattle.czi_format.specs.Entry.{Entry, A1}
-use Rattle.czi_format.specs.Live.{Live, FileHeader, Directory, directory, attachment_directory, Tile, tile, AttItem, att_item, MetaItem, meta_item, segments, document, subblock_of, attachment_of, metadata_of}
+use Rattle.czi_format.specs.Live.{Live, Directory, directory, attachment_directory, Tile, tile, AttItem, att_item, MetaItem, meta_item, segments, document, subblock_of, attachment_of, metadata_of}
 use Rattle.czi_format.specs.Partial.{none_or}
 use Rattle.czi_format.specs.Same.{SameExtent}
 use Rattle.czi_format.specs.Segment.{Segment, extent, in_segment, directory_id, subblock_id, attdir_id, attachment_id, metadata_id}
-use Rattle.czi_format.specs.Shows.{Reaches, Shows, count_of, entries, a1_entries, subblock_at, attachment_at}
+use Rattle.czi_format.specs.Shows.{Reaches, count_of, entries, a1_entries, subblock_at, attachment_at}
 use Rattle.czi_format.specs.Span.{Span, end_of, meets, AreDisjoint}
 use Rattle.czi_format.proofs.Local.{All-append, IsItsOwn, option_same, found_same, entries_same, a1_entries_same, metadata_same, data_same, tile_own, att_item_own, meta_item_own, directory_own, attdir_own}
-use Rattle.czi_machine.specs.Change.{Act, changed, kept, brought, mapped, Setting, same, to, set, set_new, set_kept, mapped_setting}
+use Rattle.czi_machine.specs.Change.{changed, kept, mapped, Setting, same, to, set, set_kept, mapped_setting}
 use Rattle.czi_machine.specs.Cover.{between, cover}
 use Rattle.czi_machine.specs.Edit.{after}
-use Rattle.czi_machine.specs.Turn.{Turn, turned, position_of, pointer, kept_segments, effect_of}
-use Rattle.czi_machine.specs.Writes.{PutsPointer, WritesIn, ReadsDirectory, ReadsAttdir, ReadsMetadata, ReadsNew}
+use Rattle.czi_machine.specs.Turn.{Turn, turned, pointer, kept_segments, effect_of}
+use Rattle.czi_machine.specs.Writes.{PutsPointer, AreOnce, WritesIn, ReadsDirectory, ReadsAttdir, ReadsMetadata, ReadsNew}
 use Rattle.czi_machine.specs.Written.{Piece, Wrote}
 use Rattle.czi_machine.proofs.Changing.{All-kept, All-changed, map-changed}
-use Rattle.czi_machine.proofs.Clear.{AreOnce, all_kept}
+use Rattle.czi_machine.proofs.Clear.{all_kept}
 use Rattle.czi_machine.proofs.Cover.{between_in}
 use Rattle.czi_machine.proofs.Relinked.{header_turned}
 use Rattle.czi_machine.proofs.Steady.{on_all}
 use Rattle.czi_machine.proofs.Tiled.{All-map, All-weaken}
 
 -- lists that a reading gives back, and the same element by element
-each_found : {X Y : Type 0} (read : X → Option Y) (source : Y → X) (ys : List Y) → map (λ y. read (source y)) ys ≡ map Some ys → AllByRecursion (λ y. read (source y) ≡ Some y) ys
+pub each_found : {X Y : Type 0} (read : X → Option Y) (source : Y → X) (ys : List Y) → map (λ y. read (source y)) ys ≡ map Some ys → AllByRecursion (λ y. read (source y) ≡ Some y) ys
 each_found read source [] e = tt
 each_found read source (y ∷ ys) e =
     let first : read (source y) ≡ Some y = cc in
@@ -125,14 +123,14 @@ few_attachments_turned other (to None) old items new was reads = omega arith
 few_attachments_turned other (to (Some d)) old items new was reads = reads.1
 
 -- What is kept of each kind is as before.
-record Kept (image other : List ℕ) (live : Live) (t : Turn) : Type 0 where
-  directory : AllByRecursion (SameExtent image other) (option_to_list (option_map (λ (d : Directory). d.segment) (set_kept t.directory live.directory)))
-  tiles : AllByRecursion (λ (x : Tile). SameExtent image other x.segment) (kept t.tiles live.tiles)
-  attdir : AllByRecursion (SameExtent image other) (option_to_list (option_map (λ (d : Directory). d.segment) (set_kept t.attdir live.attdir)))
-  attachments : AllByRecursion (λ (x : AttItem). SameExtent image other x.segment) (kept t.attachments live.attachments)
-  metadata : AllByRecursion (SameExtent image other) (option_to_list (option_map (λ (m : MetaItem). m.segment) (set_kept t.metadata live.metadata)))
+pub record Kept (image other : List ℕ) (live : Live) (t : Turn) : Type 0 where
+  pub directory : AllByRecursion (SameExtent image other) (option_to_list (option_map (λ (d : Directory). d.segment) (set_kept t.directory live.directory)))
+  pub tiles : AllByRecursion (λ (x : Tile). SameExtent image other x.segment) (kept t.tiles live.tiles)
+  pub attdir : AllByRecursion (SameExtent image other) (option_to_list (option_map (λ (d : Directory). d.segment) (set_kept t.attdir live.attdir)))
+  pub attachments : AllByRecursion (λ (x : AttItem). SameExtent image other x.segment) (kept t.attachments live.attachments)
+  pub metadata : AllByRecursion (SameExtent image other) (option_to_list (option_map (λ (m : MetaItem). m.segment) (set_kept t.metadata live.metadata)))
 
-kept_parts : (image other : List ℕ) (live : Live) (t : Turn) → AllByRecursion (SameExtent image other) (kept_segments t live) → Kept image other live t
+pub kept_parts : (image other : List ℕ) (live : Live) (t : Turn) → AllByRecursion (SameExtent image other) (kept_segments t live) → Kept image other live t
 kept_parts image other live t all =
     let P : Segment → Type 0 = SameExtent image other in
     let one = All-append P (option_to_list (option_map (λ (d : Directory). d.segment) (set_kept t.directory live.directory))) _ all in
@@ -201,3 +199,9 @@ document_turned image other live t marks pieces reaches around once wrote longer
       attachments = attachments i;
       metadata = metadata_turned image other t.metadata live.metadata k.metadata i;
     }
+
+pub any_image : (image other : List ℕ) (live : Live) (t : Turn) (marks : List Span) (pieces : List Piece) → Reaches image live → WritesIn t marks pieces → AreOnce live t marks
+    → Wrote image other pieces → length image ≤ length other → ReadsNew other t live
+    → Reaches other (turned t live) × (document other (turned t live) ≡ after (effect_of other t) (document image live))
+any_image image other live t marks pieces reaches around once wrote longer new =
+    (reaches_turned image other live t marks pieces reaches around once wrote longer new, document_turned image other live t marks pieces reaches around once wrote longer)

@@ -1,25 +1,21 @@
 -- The machine keeps to the table of commands: undos.
-use Rattle.std.proofs.Common.{◌≡◌, ℕ, List, [], ◌∷◌, ◌++◌, map, length, Bool, true, false, Option, Some, None, Result, Ok, Err, option_map, option_to_list, refl, ap, sym, ◌∙◌, arith, if◌then◌else◌}
+use Rattle.std.proofs.Common.{◌≡◌, List, [], ◌∷◌, ◌++◌, map, length, true, false, Option, Some, None, Result, Ok, Err, option_map, option_to_list, refl, ap, sym, ◌∙◌, if◌then◌else◌}
 use Rattle.std.specs.List.{AllByRecursion, list_any}
 use Rattle.czi_format.specs.Document.{Document}
 use Rattle.czi_format.specs.FirstFault.{◌>>=◌}
 use Rattle.czi_format.specs.Layout.{Place, Layout}
 use Rattle.czi_format.specs.Space.{Space, Full, Fit, fit, same_span}
 use Rattle.czi_format.specs.Span.{Span}
-use Rattle.czi_machine.specs.Change.{Act, keep, omit, bring, changed, kept, brought, omitted, mapped, Setting, same, to, set, mapped_setting}
-use Rattle.czi_machine.specs.Places.{Asked, stays, back, Placed, Fitted, fit_each, fit_option, undo_next, stays_or_back, all_stay, directory_asked, staying, stays_at, leaving, placed, laid, freeing, relaid, new_place, space_of, directory_need, attdir_need, Next, next}
-use Rattle.czi_machine.specs.State.{Items, Former, State, items_of, item_places, item_spans, spans_of}
-use Rattle.czi_machine.specs.Table.{changes, subblocks_undone, attachments_undone, metadata_undone, AreApart}
+use Rattle.czi_machine.specs.Change.{Act, keep, omit, bring, changed, kept, brought, omitted, mapped, same, to, set, mapped_setting}
+use Rattle.czi_machine.specs.Places.{Asked, stays, back, Placed, fit_each, fit_option, undo_next, stays_or_back, all_stay, leaving, placed, laid, freeing, relaid, new_place, space_of, directory_need, attdir_need, Next, next}
+use Rattle.czi_machine.specs.State.{Items, State, items_of, item_places, item_spans, spans_of}
+use Rattle.czi_machine.specs.Table.{changes, subblocks_undone, attachments_undone, metadata_undone, AreApart, AreNew}
 use Rattle.czi_format.proofs.Local.{All-append}
 use Rattle.czi_machine.proofs.Changing.{All-kept, map-changed}
 use Rattle.czi_machine.proofs.Leaving.{among_themselves}
 use Rattle.czi_machine.proofs.Omitted.{all_stay_same}
-use Rattle.czi_machine.proofs.Table.{each_stays, option_stays, change_moves, Moves, asked_by, items_leave, directories_leave, nil_right}
+use Rattle.czi_machine.proofs.TableSubblocks.{each_stays, option_stays, change_moves, Moves, asked_by, items_leave, directories_leave, nil_right}
 use Rattle.czi_machine.proofs.Tiled.{All-map, All-weaken}
-
--- what goes back is none of the present items
-abbrev pub AreNew : Layout → List Place → Type 0
-AreNew l ps = AllByRecursion (λ (p : Place). list_any (same_span p.span) (item_spans (items_of l)) ≡ false) ps
 
 present_among : (l : Layout) → AllByRecursion (λ (p : Place). list_any (same_span p.span) (item_spans (items_of l)) ≡ true) (item_places (items_of l))
 present_among l = All-map (λ (p : Place). p.span) (λ t. list_any (same_span t) (item_spans (items_of l)) ≡ true) (item_places (items_of l)) (among_themselves (item_spans (items_of l)))

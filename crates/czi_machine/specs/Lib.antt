@@ -1,5 +1,6 @@
 pub mod Change
 pub mod Edit
+pub mod Group
 pub mod State
 pub mod Places
 pub mod Table
@@ -16,4 +17,10 @@ pub mod Data
 pub mod Turn
 pub mod Writes
 pub mod Puts
+pub mod Removal
+pub mod Formers
 pub mod Laws
+pub mod Planned
+pub mod Fits
+pub mod Kept
+pub mod Instance

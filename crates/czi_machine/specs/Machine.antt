@@ -3,7 +3,7 @@ use Rattle.std.specs.Prelude.{ℕ, suc, ◌-◌, ◌^◌, List, [], ◌∷◌, t
 use Rattle.czi_format.specs.Document.{Document}
 use Rattle.czi_format.specs.Layout.{Layout}
 use Rattle.czi_format.specs.FirstFault.{◌>>=◌, with_fault}
-use Rattle.czi_machine.specs.Edit.{Edit, Refusal, nothing, full, after, effect}
+use Rattle.czi_machine.specs.Edit.{Edit, DocumentEffect, Refusal, nothing, full, after, effect}
 use Rattle.czi_format.specs.Space.{Full}
 use Rattle.czi_machine.specs.State.{Former, State, items_of}
 use Rattle.czi_machine.specs.Places.{laid, edit_next, undo_next, repacked, all_moves, Move}
@@ -44,12 +44,17 @@ edited s d l = record {
   number = one_more s.number;
 }
 
+-- the state after this becomes of the document, or what refuses it
+abbrev pub after_effect : State → DocumentEffect → Result State Refusal
+after_effect s e = do
+  l ← with_fault as_refusal (laid s (edit_next s e))
+  Ok (edited s (after e s.document) l)
+
 -- the state after an edit, or what refuses it
 abbrev pub after_edit : State → Edit → Result State Refusal
 after_edit s c = do
   e ← effect s.document c
-  l ← with_fault as_refusal (laid s (edit_next s e))
-  Ok (edited s (after e s.document) l)
+  after_effect s e
 
 -- the newest former is the present document again
 abbrev pub restored : State → Former → List Former → Layout → State

@@ -1,14 +1,15 @@
 -- What each command needs, in order, what it uses and what it frees: a table that the machine keeps to.
-use Rattle.std.specs.Prelude.{◌≡◌, ℕ, zero, suc, ◌≤◌, ◌<◌, List, [], ◌∷◌, ◌++◌, length, Bool, true, false, Option, Some, None, option_to_list, Result, Ok}
-use Rattle.std.specs.List.{AllByRecursion}
-use Rattle.czi_format.specs.Document.{Subblock, Attachment, Metadata}
+use Rattle.std.specs.Prelude.{◌≡◌, ℕ, zero, suc, ◌≤◌, ◌<◌, List, [], ◌∷◌, ◌++◌, length, Bool, true, false, Option, Some, option_to_list, Result, Ok, IsTrue, IsFalse}
+use Rattle.std.specs.List.{AllByRecursion, list_any}
+use Rattle.czi_format.specs.Document.{Document, Subblock, Attachment, Metadata}
 use Rattle.czi_format.specs.FirstFault.{◌>>=◌}
 use Rattle.czi_format.specs.Layout.{Place, Layout}
-use Rattle.czi_format.specs.Space.{Space, Full, fit}
-use Rattle.czi_machine.specs.Change.{Act, keep, omit, bring, changed, brought, omitted}
+use Rattle.czi_format.specs.Space.{Space, Full, fit, same_span}
+use Rattle.czi_machine.specs.Change.{Act, Change, keep, omit, bring, changed, brought, omitted}
 use Rattle.czi_machine.specs.Cover.{cover}
-use Rattle.czi_machine.specs.Places.{Fitted, new_place, freeing, space_of, subblock_need, attachment_need, metadata_need, directory_need, attdir_need, live_places}
-use Rattle.czi_machine.specs.State.{Former, State, items_of, spans_of}
+use Rattle.czi_machine.specs.Edit.{in_subblocks, in_attachments, to_metadata}
+use Rattle.czi_machine.specs.Places.{Fitted, edit_next, undo_next, laid, new_place, freeing, space_of, subblock_need, attachment_need, metadata_need, directory_need, attdir_need, live_places}
+use Rattle.czi_machine.specs.State.{Items, Former, State, items_of, item_spans, spans_of}
 
 -- a change that leaves a list of n items as it is brings nothing, and leaves out nothing
 abbrev pub changes : {X : Type 0} → List (Act X) → ℕ → Bool
@@ -108,3 +109,36 @@ metadata_undone s f = freeing s.layout (record {
 pub record AreApart (l : Layout) : Type 0 where
   pub once : (p : ℕ) → cover (spans_of (live_places l)) p ≤ 1
   pub some : AllByRecursion (λ (p : Place). 0 < p.span.len) (live_places l)
+
+-- what goes back is none of the present items
+abbrev pub AreNew : Layout → List Place → Type 0
+AreNew l ps = AllByRecursion (λ (p : Place). IsFalse (list_any (same_span p.span) (item_spans (items_of l)))) ps
+
+-- The rows of the table, as laws of the machine.
+abbrev pub SubblocksRow : Type 0
+SubblocksRow = (s : State) (c : Change Subblock) → AreApart s.layout → IsTrue (changes c (length s.layout.subblocks)) → laid s (edit_next s (in_subblocks c)) ≡ subblocks_laid s c
+
+abbrev pub AttachmentsRow : Type 0
+AttachmentsRow = (s : State) (c : Change Attachment) → AreApart s.layout → IsTrue (changes c (length s.layout.attachments)) → laid s (edit_next s (in_attachments c)) ≡ attachments_laid s c
+
+abbrev pub MetadataRow : Type 0
+MetadataRow = (s : State) (m : Metadata) → AreApart s.layout → laid s (edit_next s (to_metadata m)) ≡ metadata_laid s m
+
+-- a former document, with its items
+abbrev pub former_with : Document → Items → Former
+former_with d items = record { document = d; items = items }
+
+abbrev pub UndoneSubblocksRow : Type 0
+UndoneSubblocksRow = (s : State) (d : Document) (c : Change Place) → AreApart s.layout → IsTrue (changes c (length s.layout.subblocks)) → AreNew s.layout (brought c)
+    → laid s (undo_next s (former_with d (record (items_of s.layout) { subblocks = changed c s.layout.subblocks })))
+    ≡ subblocks_undone s (former_with d (record (items_of s.layout) { subblocks = changed c s.layout.subblocks })) c
+
+abbrev pub UndoneAttachmentsRow : Type 0
+UndoneAttachmentsRow = (s : State) (d : Document) (c : Change Place) → AreApart s.layout → IsTrue (changes c (length s.layout.attachments)) → AreNew s.layout (brought c)
+    → laid s (undo_next s (former_with d (record (items_of s.layout) { attachments = changed c s.layout.attachments })))
+    ≡ attachments_undone s (former_with d (record (items_of s.layout) { attachments = changed c s.layout.attachments })) c
+
+abbrev pub UndoneMetadataRow : Type 0
+UndoneMetadataRow = (s : State) (d : Document) (o : Option Place) → AreApart s.layout → AreNew s.layout (option_to_list o)
+    → laid s (undo_next s (former_with d (record (items_of s.layout) { metadata = o })))
+    ≡ Ok (metadata_undone s (former_with d (record (items_of s.layout) { metadata = o })))

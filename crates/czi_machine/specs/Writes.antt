@@ -1,5 +1,5 @@
 -- What a command writes, and what is then read.
-use Rattle.std.specs.Prelude.{◌≡◌, ◌⊎◌, ℕ, ◌+◌, ◌-◌, ◌≤◌, ◌<◌, ◌^◌, ℤ, List, [], ◌∷◌, ◌++◌, map, filter, length, not, Option, Some, None, Ok, IsTrue}
+use Rattle.std.specs.Prelude.{◌≡◌, ◌⊎◌, ℕ, ◌+◌, ◌-◌, ◌≤◌, ◌<◌, ◌^◌, List, [], ◌∷◌, ◌++◌, map, filter, length, not, Some, None, Ok, IsTrue}
 use Rattle.std.specs.List.{AllByRecursion, list_any}
 use Rattle.czi_format.specs.Layout.{Place, Layout}
 use Rattle.czi_machine.specs.Places.{can_be_used, live_places}
@@ -8,7 +8,7 @@ use Rattle.czi_format.specs.Bytes.{i64_bytes}
 use Rattle.czi_format.specs.Span.{Span}
 use Rattle.czi_format.specs.Segment.{Segment, extent, header_bytes, deleted_id, in_segment, directory_id, attdir_id, metadata_id}
 use Rattle.czi_format.specs.Space.{same_span}
-use Rattle.czi_format.specs.Live.{Live, Directory, directory, attachment_directory, Tile, AttItem, MetaItem, meta_item}
+use Rattle.czi_format.specs.Live.{Live, Directory, directory, attachment_directory, Tile, AttItem, MetaItem, meta_item, segments}
 use Rattle.czi_format.specs.Shows.{entries, a1_entries, subblock_at, attachment_at}
 use Rattle.czi_machine.specs.Change.{brought, Setting, same, to}
 use Rattle.czi_machine.specs.Cover.{cover}
@@ -43,6 +43,15 @@ pub record WritesIn (t : Turn) (marks : List Span) (pieces : List Piece) : Type 
   pub metadata : PutsPointer (λ (m : MetaItem). m.segment) pieces 92 t.metadata
   pub attdir : PutsPointer (λ (d : Directory). d.segment) pieces 104 t.attdir
   pub within : (q b : ℕ) → byte_of pieces q ≡ Some b → 1 ≤ cover (writable t marks) q
+
+-- a span that has room for a header
+abbrev pub IsLong : Span → Type 0
+IsLong e = 32 ≤ e.len
+
+-- What is live afterwards, and some other spans, have no place twice.
+pub record AreOnce (live : Live) (t : Turn) (marks : List Span) : Type 0 where
+  pub once : (p : ℕ) → cover (map extent (segments (turned t live))) p + cover marks p ≤ 1
+  pub long : AllByRecursion IsLong marks
 
 -- What was live and is no more, and can't be used again: off the multiples of 32, or where the walk doesn't stand.
 abbrev pub dead : Layout → Layout → List Span

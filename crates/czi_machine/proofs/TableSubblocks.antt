@@ -1,21 +1,18 @@
 -- The machine keeps to the table of commands.
-use Rattle.std.proofs.Common.{◌≡◌, ℕ, zero, suc, ◌+◌, ◌≤◌, ◌<◌, List, [], ◌∷◌, ◌++◌, map, length, Bool, true, false, ◌&&◌, Option, Some, None, Result, Ok, Err, option_map, option_to_list, refl, ap, sym, ◌∙◌, arith, inl, inr, if◌then◌else◌}
-use Rattle.std.specs.List.{AllByRecursion, filter, list_any}
+use Rattle.std.proofs.Common.{◌≡◌, ℕ, ◌≤◌, ◌<◌, List, [], ◌∷◌, ◌++◌, map, length, Bool, true, false, Option, Some, None, Result, Ok, Err, option_map, option_to_list, refl, ap, sym, ◌∙◌, arith, inl, inr, if◌then◌else◌}
 use Rattle.std.proofs.lemmas.Bool.{cases_Bool, and_parts}
-use Rattle.czi_format.specs.Document.{Subblock, Attachment, Metadata}
+use Rattle.czi_format.specs.Document.{Subblock}
 use Rattle.czi_format.specs.FirstFault.{◌>>=◌}
 use Rattle.czi_format.specs.Layout.{Place, Layout}
-use Rattle.czi_format.specs.Space.{Space, Full, Fit, fit, same_span}
-use Rattle.czi_format.specs.Span.{Span}
-use Rattle.czi_machine.specs.Change.{Act, keep, omit, bring, changed, brought, kept, omitted, mapped, Setting, same, to, set, set_kept, set_omitted, mapped_setting}
-use Rattle.czi_machine.specs.Cover.{cover}
-use Rattle.czi_machine.specs.Edit.{in_subblocks, in_attachments, to_metadata, after}
-use Rattle.czi_machine.specs.Places.{Asked, stays, back, fresh, Next, Placed, Fitted, fit_one, fit_each, fit_option, edit_next, undo_next, stays_or_back, staying, stays_at, all_stay, directory_asked, items_asked, directories_asked, directories, live_places, leaving, placed, laid, freeing, relaid, new_place, space_of, subblock_need, attachment_need, metadata_need, directory_need, attdir_need}
-use Rattle.czi_machine.specs.State.{Items, Former, State, items_of, item_places, item_spans, spans_of, not_among}
-use Rattle.czi_machine.specs.Table.{changes, fit_brought, subblocks_laid, attachments_laid, metadata_laid, subblocks_undone, attachments_undone, metadata_undone, AreApart}
+use Rattle.czi_format.specs.Space.{Space, Full, Fit, fit}
+use Rattle.czi_machine.specs.Change.{Act, keep, omit, bring, changed, brought, kept, omitted, mapped, Setting, same, set, set_kept, set_omitted, mapped_setting}
+use Rattle.czi_machine.specs.Edit.{in_subblocks}
+use Rattle.czi_machine.specs.Places.{Asked, stays, fresh, Placed, Fitted, fit_each, fit_option, edit_next, staying, stays_at, all_stay, directory_asked, directories, leaving, placed, laid, freeing, relaid, new_place, space_of, subblock_need, attachment_need, metadata_need, directory_need, attdir_need}
+use Rattle.czi_machine.specs.State.{State, items_of, item_places, spans_of, not_among}
+use Rattle.czi_machine.specs.Table.{changes, fit_brought, subblocks_laid, AreApart}
 use Rattle.czi_machine.proofs.Asking.{spans-append}
-use Rattle.czi_machine.proofs.Exact.{cover-live_places, live_parts}
-use Rattle.czi_machine.proofs.Omitted.{Parted, parted_list, parted_set, parted_directory, parted_both, not_kept, staying_changed, staying_set, staying_directory, staying-both, all_stay_same, all_stay_length}
+use Rattle.czi_machine.proofs.Placing.{cover-live_places, live_parts}
+use Rattle.czi_machine.proofs.Omitted.{parted_list, parted_set, parted_directory, parted_both, not_kept, staying_changed, staying_set, staying_directory, staying-both, all_stay_same, all_stay_length}
 
 abbrev pub FittedItems : Type 0
 FittedItems = Result (Fitted (List Place)) Full

@@ -1,16 +1,16 @@
 -- The machine keeps to the table of commands: changes of the attachments, and settings of the metadata.
-use Rattle.std.proofs.Common.{◌≡◌, ℕ, List, [], ◌∷◌, ◌++◌, map, length, Bool, true, false, Option, Some, None, Result, Ok, Err, option_map, option_to_list, refl, ap, sym, ◌∙◌, if◌then◌else◌}
+use Rattle.std.proofs.Common.{◌≡◌, List, [], ◌∷◌, ◌++◌, map, length, true, false, Some, None, Result, Ok, Err, option_to_list, refl, ap, sym, ◌∙◌, if◌then◌else◌}
 use Rattle.czi_format.specs.Document.{Attachment, Metadata}
 use Rattle.czi_format.specs.FirstFault.{◌>>=◌}
 use Rattle.czi_format.specs.Layout.{Place, Layout}
-use Rattle.czi_format.specs.Space.{Space, Full, Fit, fit}
-use Rattle.czi_machine.specs.Change.{Act, changed, brought, omitted, mapped, Setting, same, to, set, mapped_setting}
+use Rattle.czi_format.specs.Space.{Full, Fit, fit}
+use Rattle.czi_machine.specs.Change.{Act, changed, omitted, mapped, same, to}
 use Rattle.czi_machine.specs.Edit.{in_attachments, to_metadata}
-use Rattle.czi_machine.specs.Places.{Asked, stays, fresh, Placed, Fitted, fit_each, fit_option, edit_next, all_stay, leaving, placed, laid, freeing, relaid, new_place, space_of, subblock_need, attachment_need, metadata_need, directory_need, attdir_need}
+use Rattle.czi_machine.specs.Places.{stays, fresh, Placed, Fitted, fit_each, edit_next, all_stay, leaving, placed, laid, freeing, relaid, new_place, space_of, subblock_need, attachment_need, metadata_need, directory_need, attdir_need}
 use Rattle.czi_machine.specs.State.{State, items_of}
 use Rattle.czi_machine.specs.Table.{changes, fit_brought, attachments_laid, metadata_laid, AreApart}
 use Rattle.czi_machine.proofs.Omitted.{all_stay_same}
-use Rattle.czi_machine.proofs.Table.{placed_change, each_stays, option_stays, each_brought, change_moves, new_moves, new_never, asked_by, items_leave, directories_leave, nil_right}
+use Rattle.czi_machine.proofs.TableSubblocks.{placed_change, each_stays, option_stays, each_brought, change_moves, new_moves, new_never, asked_by, items_leave, directories_leave, nil_right}
 
 attachments_moved : (s : State) (c : List (Act Attachment)) → changes c (length s.layout.attachments) ≡ true → all_stay s.layout.attachments (changed (mapped (λ x. fresh (attachment_need x)) c) (map stays s.layout.attachments)) ≡ false
 attachments_moved s c ch = change_moves (λ x. fresh (attachment_need x)) c s.layout.attachments (new_never attachment_need) ch
