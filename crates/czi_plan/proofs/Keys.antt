@@ -8,15 +8,13 @@ use Rattle.std.proofs.lemmas.Cmp.{nat_list_eq_equiv, int_eq_equiv}
 use Rattle.std.proofs.Math.ListN.{get_or-map}
 use Rattle.std.proofs.lemmas.List.{length-map, get_or-map as get_at}
 use Rattle.czi_spans.proofs.Apart.{position_hit, position_miss}
-use Rattle.czi_format.specs.Key.{Axis, Sizes, Key}
+use Rattle.std.specs.List.{find}
+use Rattle.czi_doc.specs.View.{dim_of}
+use Rattle.czi_doc.specs.declared.dimensions.Dim.{Dim as CodeDim}
+use Rattle.czi_format.specs.Entry.{Dim}
+use Rattle.czi_format.specs.Span.{sorted}
+use Rattle.czi_format.specs.Key.{Axis, Sizes, axis, axis_le, key, sizes}
 use Rattle.czi_machine.specs.Edit.{same_sizes, same_axes, same_key}
-
-sizes_same : (a b : Sizes) → same_sizes a b ≡ true → a ≡ b
-sizes_same a b e =
-    let both = and_parts (int_eq a.size b.size) (int_eq a.stored b.stored) e in
-    let size : a.size ≡ b.size = (Decides-int_eq a.size b.size).0 both.0 in
-    let stored : a.stored ≡ b.stored = (Decides-int_eq a.stored b.stored).0 both.1 in
-    λ i. record { size = size i; stored = stored i }
 
 axes_same : (xs ys : List Axis) → same_axes xs ys ≡ true → xs ≡ ys
 axes_same [] [] e = refl
@@ -30,24 +28,9 @@ axes_same (x ∷ xs) (y ∷ ys) e =
     let rest : xs ≡ ys = axes_same xs ys one.1 in
     λ i. record { name = name i; start = start i } ∷ rest i
 
-key_same : (a b : Key) → same_key a b ≡ true → a ≡ b
-key_same a b e =
-    let one = and_parts (same_axes a.axes b.axes && same_sizes a.x b.x) (same_sizes a.y b.y) e in
-    let two = and_parts (same_axes a.axes b.axes) (same_sizes a.x b.x) one.0 in
-    let axes : a.axes ≡ b.axes = axes_same a.axes b.axes two.0 in
-    let x : a.x ≡ b.x = sizes_same a.x b.x two.1 in
-    let y : a.y ≡ b.y = sizes_same a.y b.y one.1 in
-    λ i. record { axes = axes i; x = x i; y = y i }
-
-sizes_self : (a : Sizes) → same_sizes a a ≡ true
-sizes_self a = and_from _ _ (int_eq_equiv.refl a.size) (int_eq_equiv.refl a.stored)
-
 axes_self : (xs : List Axis) → same_axes xs xs ≡ true
 axes_self [] = refl
 axes_self (x ∷ xs) = and_from _ _ (and_from _ _ (nat_list_eq_equiv.refl x.name) (int_eq_equiv.refl x.start)) (axes_self xs)
-
-key_self : (a : Key) → same_key a a ≡ true
-key_self a = and_from _ _ (and_from _ _ (axes_self a.axes) (sizes_self a.x)) (sizes_self a.y)
 
 -- two tests of one fact are the same
 pub tests_same : (b c : Bool) → (b ≡ true → c ≡ true) → (c ≡ true → b ≡ true) → b ≡ c
@@ -55,11 +38,28 @@ tests_same true c f g = sym (f refl)
 tests_same false true f g = g refl
 tests_same false false f g = refl
 
-pub key_test : (b : Bool) (own wanted key : Key) → own ≡ key → (b ≡ true → own ≡ wanted) → (own ≡ wanted → b ≡ true) → b ≡ same_key key wanted
-key_test b own wanted key is there back =
-    tests_same b (same_key key wanted)
-    (λ e. ap (λ k. same_key k wanted) (sym is ∙ there e) ∙ key_self wanted)
-    (λ e. back (is ∙ key_same key wanted e))
+-- the sizes of the first dimension with a name
+abbrev pub named : List ℕ → List CodeDim → Sizes
+named name ds = sizes (find (λ (d : Dim). bytes_eq d.name name) (map dim_of ds))
+
+abbrev pub in_order : List CodeDim → List Axis
+in_order ds = sorted axis_le (map axis (map dim_of ds))
+
+pub keys_alike : (ds es : List CodeDim) (x y a : Bool) → x ≡ same_sizes (named (88 ∷ 0 ∷ 0 ∷ 0 ∷ []) ds) (named (88 ∷ 0 ∷ 0 ∷ 0 ∷ []) es) → y ≡ same_sizes (named (89 ∷ 0 ∷ 0 ∷ 0 ∷ []) ds) (named (89 ∷ 0 ∷ 0 ∷ 0 ∷ []) es)
+    → (a ≡ true → in_order ds ≡ in_order es) → (in_order ds ≡ in_order es → a ≡ true) → x ≡ true → y ≡ true → a ≡ same_key (key (map dim_of ds)) (key (map dim_of es))
+unfolding key
+keys_alike ds es x y a first second there back x_is y_is =
+    tests_same a (same_key (key (map dim_of ds)) (key (map dim_of es)))
+    (λ t. and_from _ _ (and_from _ _ (ap (same_axes (in_order ds)) (sym (there t)) ∙ axes_self (in_order ds)) (sym first ∙ x_is)) (sym second ∙ y_is))
+    (λ t. back (axes_same (in_order ds) (in_order es) (and_parts _ _ (and_parts _ _ t).0).0))
+
+pub first_differs : (ds es : List CodeDim) (x : Bool) → x ≡ same_sizes (named (88 ∷ 0 ∷ 0 ∷ 0 ∷ []) ds) (named (88 ∷ 0 ∷ 0 ∷ 0 ∷ []) es) → x ≡ false → false ≡ same_key (key (map dim_of ds)) (key (map dim_of es))
+unfolding key
+first_differs ds es x first x_is = tests_same false (same_key (key (map dim_of ds)) (key (map dim_of es))) (λ t. absurd (cc (t))) (λ t. sym x_is ∙ (first ∙ (and_parts _ _ (and_parts _ _ t).0).1))
+
+pub second_differs : (ds es : List CodeDim) (y : Bool) → y ≡ same_sizes (named (89 ∷ 0 ∷ 0 ∷ 0 ∷ []) ds) (named (89 ∷ 0 ∷ 0 ∷ 0 ∷ []) es) → y ≡ false → false ≡ same_key (key (map dim_of ds)) (key (map dim_of es))
+unfolding key
+second_differs ds es y second y_is = tests_same false (same_key (key (map dim_of ds)) (key (map dim_of es))) (λ t. absurd (cc (t))) (λ t. sym y_is ∙ (second ∙ (and_parts _ _ t).1))
 
 -- the first that passes, of what the elements stand for
 pub first_hit : {X Y : Type 0} (f : X → Y) (p : Y → Bool) (xs : List X) (i : ℕ) (d : X) → i < length xs → ((k : ℕ) → k < i → p (f (get_or xs k d)) ≡ false) → p (f (get_or xs i d)) ≡ true → Some i ≡ position p (map f xs)

@@ -1,5 +1,6 @@
 pub mod Lists
 pub mod Keys
+pub mod Axes
 pub mod Entries
 pub mod Extents
 pub mod Links

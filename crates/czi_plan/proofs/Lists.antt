@@ -1,5 +1,5 @@
 -- Steps of loops over lists.
-use Rattle.std.proofs.Common.{◌≡◌, ℕ, zero, suc, ◌+◌, ◌<◌, ◌≤◌, List, [], ◌∷◌, ◌++◌, map, take, drop, get_or, length, refl, ap, sym, ◌∙◌, arith}
+use Rattle.std.proofs.Common.{◌≡◌, ℕ, zero, suc, ◌+◌, ◌<◌, ◌≤◌, List, [], ◌∷◌, ◌++◌, map, take, drop, get_or, length, refl, ap, sym, ◌∙◌, subst, arith}
 use Rattle.std.specs.List.{AllByRecursion, flat_map}
 use Rattle.std.proofs.Math.Numerals.{add-one}
 use Rattle.std.proofs.Math.Seq.{drop-cons, take-suc}
@@ -65,3 +65,6 @@ pub all_get : {X : Type 0} (P : X → Type 0) (xs : List X) (i : ℕ) (x : X) �
 all_get P [] i x a h = absurd (omega arith)
 all_get P (y ∷ ys) zero x a h = a.0
 all_get P (y ∷ ys) (suc i) x a h = all_get P ys i x a.1 (omega arith)
+
+pub all_more : {X : Type 0} (P : X → Type 0) (xs : List X) (i : ℕ) (d : X) → i < length xs → AllByRecursion P (take i xs) → P (get_or xs i d) → AllByRecursion P (take (i + 1) xs)
+all_more P xs i d h all one = subst (λ n. AllByRecursion P (take n xs)) (sym (add-one i)) (subst (AllByRecursion P) (sym (take-suc xs i d h)) (all_append P (take i xs) (get_or xs i d ∷ []) all (one, tt)))

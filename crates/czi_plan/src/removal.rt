@@ -127,7 +127,7 @@ fn remove_at(
 ///
 /// # Errors
 ///
-/// `Full` exactly where the new directory has no place, and `Memory`. Nothing is said of `region` and `out` then.
+/// `Full` exactly where the new directory has no place, and else `Memory`. Nothing is said of `region` and `out` then.
 pub fn plan_remove(
     alloc: Global,
     index: &Index,
@@ -144,6 +144,6 @@ pub fn plan_remove(
     ensures removes { OnOk result ((i : ℕ) → tile_with (dims_of dims.now) (map tile_of index.now.tiles.items) ≡ Some i → Removes index.now space.now i (left_entries i index.now) region.new out.new) }
     ensures full { IfErr result (λ fault. (i : ℕ) → tile_with (dims_of dims.now) (map tile_of index.now.tiles.items) ≡ Some i → IsCause fault (fit (space_of space.now) (directory_need (left_entries i index.now)))) }
 {
-    let i = tile_with(alloc, &index.tiles, dims)?.unwrap();
+    let i = tile_with(&index.tiles, dims).unwrap();
     remove_at(alloc, index, space, i, region, out)
 }

@@ -90,7 +90,7 @@ fn planned(
 ) -> Result<Result<(EditPlan, Vec<u8>), PlanFault>, Fail> {
     let dims = read_dims(alloc, dims).ok().ok_or("no dimensions")?;
     let map = map_of(alloc, index)?;
-    let Some(_) = tile_with(alloc, index.tiles.as_slice(), &dims)? else {
+    let Some(_) = tile_with(index.tiles.as_slice(), &dims) else {
         return Err(Fail::from("no such subblock"));
     };
     if !has_headers(index) {

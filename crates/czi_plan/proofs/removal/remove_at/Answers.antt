@@ -1,7 +1,7 @@
 use Rattle.std.proofs.Common.{◌≡◌, ℕ, ◌+◌, ◌-◌, ◌++◌, ◌∷◌, [], List, map, take, drop, length, max, ap, ◌∙◌, subst}
 use Rattle.std.proofs.lemmas.Result.{err_from_is_err_and}
 use Rattle.czi_format.specs.Entry.{Entry}
-use Rattle.czi_format.specs.Space.{fit, use_all}
+use Rattle.czi_format.specs.Space.{fit, use_all, use_span}
 use Rattle.czi_num.specs.Span.{span_of}
 use Rattle.czi_num.specs.declared.span.Span.{Span as CodeSpan}
 use Rattle.czi_space.specs.State.{space_of}
@@ -76,3 +76,17 @@ returns-clause-removes c =
       same_freed = ap (λ (v : Vec CodeSpan Global). v.items) c.in_ok-link.ensures.freed;
       same_length = c.in_ok-link.ensures.length;
     })
+
+pub returns-in_err-release_removed-clause-full : goal.returns-in_err-release_removed-clause-full
+returns-in_err-release_removed-clause-full c =
+    let p = err_from_is_err_and c.from_residual-in_err-release_removed.result c.from_residual-in_err-release_removed.ensures.1 in
+    let left : entries_of (take c.args.i c.deref.result.now) ++ entries_of (take (length c.deref-2.result.now - (c.args.i + 1)) (drop (c.args.i + 1) c.deref-2.result.now)) ≡ left_entries c.args.i c.args.index.now
+    = left_are c.args.index.now.tiles.items c.deref.result.now c.deref-2.result.now c.args.i c.deref.ensures.value c.deref-2.ensures.value in
+    rw (p.1, p.2) (record { span = span_of c.in_ok-head.head.0; space = use_span (space_of c.args.space.now) (span_of c.in_ok-head.head.0) }, fits_here c.args.space.now _ _ c.args.out.now.used.items c.in_ok-head.head.0 c.requires.empty.used left c.in_ok-head.ensures.placed)
+
+pub returns-in_err-link-clause-full : goal.returns-in_err-link-clause-full
+returns-in_err-link-clause-full c =
+    let p = err_from_is_err_and c.from_residual-in_err-link.result c.from_residual-in_err-link.ensures.1 in
+    let left : entries_of (take c.args.i c.deref.result.now) ++ entries_of (take (length c.deref-2.result.now - (c.args.i + 1)) (drop (c.args.i + 1) c.deref-2.result.now)) ≡ left_entries c.args.i c.args.index.now
+    = left_are c.args.index.now.tiles.items c.deref.result.now c.deref-2.result.now c.args.i c.deref.ensures.value c.deref-2.ensures.value in
+    rw (p.1, p.2) (record { span = span_of c.in_ok-head.head.0; space = use_span (space_of c.args.space.now) (span_of c.in_ok-head.head.0) }, fits_here c.args.space.now _ _ c.args.out.now.used.items c.in_ok-head.head.0 c.requires.empty.used left c.in_ok-head.ensures.placed)

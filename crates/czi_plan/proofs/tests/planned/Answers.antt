@@ -8,5 +8,5 @@ use Rattle.czi_plan.proofs.tests.planned.Goals as goal
 pub first_write-requires : goal.first_write-requires
 first_write-requires c =
     let found : tile_with (dims_of c.in_ok-dims.dims) (map tile_of c.args.index.now.tiles.items) ≡ Some c.in-Some.field-0
-    = sym (c.in_ok-tile_with.ensures ∙ ap (λ (ts : List Tile). tile_with (dims_of c.in_ok-dims.dims) (map tile_of ts)) c.as_slice.ensures.value) ∙ c.in-Some.is in
+    = sym (c.tile_with.ensures ∙ ap (λ (ts : List Tile). tile_with (dims_of c.in_ok-dims.dims) (map tile_of ts)) c.as_slice.ensures.value) ∙ c.in-Some.is in
     (c.in-Ok.ensures.removes c.in-Some.field-0 found).staged
