@@ -1,0 +1,4 @@
+pub mod Commit
+pub mod Holes
+pub mod Laws
+pub mod Stands
