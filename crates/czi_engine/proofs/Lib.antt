@@ -1,3 +1,6 @@
 mod Ranges
 mod Outside
 mod Opening
+mod Newly
+mod Made
+mod Committed

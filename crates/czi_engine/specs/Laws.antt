@@ -1,19 +1,20 @@
 -- The laws of what an image and a journal open as, as statements.
-use Rattle.std.specs.Prelude.{◌≡◌, ◌≤◌, ℕ, pos, List, [], Ok}
+use Rattle.std.specs.Prelude.{◌≡◌, ◌≤◌, ℕ, pos, List, [], length, slice_index, Ok}
 use Rattle.czi_format.specs.Bytes.{IsBytes}
 use Rattle.czi_format.specs.Entry.{Dim}
-use Rattle.czi_format.specs.Layout.{Layout, IsSteady}
-use Rattle.czi_format.specs.Live.{Live, Directory, update_pending}
+use Rattle.czi_format.specs.Layout.{Layout, HasLayout}
+use Rattle.czi_format.specs.Live.{Live, Directory, document, update_pending}
+use Rattle.czi_format.specs.Shows.{Reaches}
 use Rattle.czi_machine.specs.Change.{out}
 use Rattle.czi_machine.specs.Edit.{remove}
-use Rattle.czi_machine.specs.Laws.{Lies, LiesLoosely}
 use Rattle.czi_machine.specs.Machine.{after_edit}
 use Rattle.czi_machine.specs.Removal.{with_directory}
 use Rattle.czi_machine.specs.State.{State}
 use Rattle.czi_machine.specs.Turn.{Turn, turned}
+use Rattle.czi_machine.specs.Written.{Wrote}
 use Rattle.czi_rig.specs.Disk.{Covers, SameOutside}
 use Rattle.czi_vault.specs.Recovered.{Recovered, Stands, StandsOr}
-use Rattle.czi_engine.specs.Commit.{Step, made_of, IsStep, IsPlanned, IsRemoval, removed}
+use Rattle.czi_engine.specs.Commit.{Step, made_of, pieces_in, IsStep, IsPlanned, IsRemoval, removed}
 use Rattle.czi_engine.specs.Holes.{holes_of, AreHigh, view_of}
 use Rattle.czi_engine.specs.Stands.{OpensAs, EitherSide, StandsOn}
 
@@ -32,3 +33,31 @@ RecoveredOpens = (start bytes image journal : List ℕ) (live : Live) (s : State
 -- and so does what stands for them outside the holes
 abbrev pub ViewOpens : Type 0
 ViewOpens = (start bytes image journal : List ℕ) (live : Live) (s : State) (high : AreHigh s) → StandsOn start bytes live s → Stands (view_of bytes s high) image journal → OpensAs start image journal s
+
+-- what is opened stands on the state of its layout, without formers
+abbrev pub OpenedStands : Type 0
+OpenedStands = (bytes : List ℕ) (live : Live) (s : State) → IsBytes bytes → Reaches bytes live → s.document ≡ document bytes live → HasLayout bytes s.layout → s.formers ≡ [] → update_pending bytes ≡ pos 0
+    → StandsOn bytes bytes live s
+
+-- the bytes of a commit are those of its pieces, and elsewhere what was there
+abbrev pub MadeWrote : Type 0
+MadeWrote = (bytes : List ℕ) (c : Step) → IsStep bytes c → Wrote bytes (made_of c bytes) (pieces_in c) × (length (made_of c bytes) ≡ c.commits.committed) × (slice_index (made_of c bytes) 100 ≡ 0)
+
+-- after a command was committed, the bytes have the state to which the command leads
+abbrev pub CommitStands : Type 0
+CommitStands = (start bytes : List ℕ) (live : Live) (s s' : State) (t : Turn) (c : Step) → StandsOn start bytes live s → IsPlanned start bytes live s s' t c → IsStep bytes c
+    → StandsOn start (made_of c bytes) (turned t live) s'
+
+-- and while it is, everything that a crash may leave opens as the state before it or as the one after it
+abbrev pub CommitOpens : Type 0
+CommitOpens = (start bytes image journal : List ℕ) (live : Live) (s s' : State) (t : Turn) (c : Step) (high : AreHigh s) → StandsOn start bytes live s → IsPlanned start bytes live s s' t c → IsStep bytes c
+    → StandsOr (view_of bytes s high) (made_of c bytes) image journal → EitherSide start image journal s s'
+
+-- the same of a removal
+abbrev pub RemovalStands : Type 0
+RemovalStands = (start bytes : List ℕ) (live : Live) (s : State) (dims : List Dim) (i : ℕ) (d : Directory) (l' : Layout) (c : Step) → StandsOn start bytes live s → IsRemoval live s dims i d l' c → IsStep bytes c
+    → (after_edit s (remove dims) ≡ Ok (removed s i l')) × StandsOn start (made_of c bytes) (turned (with_directory d (out i)) live) (removed s i l')
+
+abbrev pub RemovalOpens : Type 0
+RemovalOpens = (start bytes image journal : List ℕ) (live : Live) (s : State) (dims : List Dim) (i : ℕ) (d : Directory) (l' : Layout) (c : Step) (high : AreHigh s) → StandsOn start bytes live s → IsRemoval live s dims i d l' c → IsStep bytes c
+    → StandsOr (view_of bytes s high) (made_of c bytes) image journal → EitherSide start image journal s (removed s i l')

@@ -2,7 +2,7 @@
 //! laws of one commit.
 #![tactic(auto)]
 
-ghost use Rattle.czi_engine.specs.Laws.{HolesAreHigh, StandsOutside, RecoveredOpens, ViewOpens};
+ghost use Rattle.czi_engine.specs.Laws.{HolesAreHigh, StandsOutside, RecoveredOpens, ViewOpens, OpenedStands, MadeWrote, CommitStands, CommitOpens, RemovalStands, RemovalOpens};
 
 /// What stands for the bytes of a state, outside the holes of the state, opens as the state.
 pub fn views_open()
@@ -10,4 +10,27 @@ pub fn views_open()
     ensures outside { StandsOutside }
     ensures recovered { RecoveredOpens }
     ensures opens { ViewOpens }
+{}
+
+/// An image that shows a document, with no update pending, stands on the state of its layout.
+pub fn opened_stands()
+    ensures { OpenedStands }
+{}
+
+/// What writes and a commit make of bytes: they have the bytes of the pieces.
+pub fn commit_makes()
+    ensures { MadeWrote }
+{}
+
+/// One commit of any planned command: while it runs, everything that a crash may leave opens as the
+/// state before the command or as the one after it, and then the bytes stand on that one.
+pub fn one_commit()
+    ensures stands { CommitStands }
+    ensures opens { CommitOpens }
+{}
+
+/// The same of a removal.
+pub fn one_removal()
+    ensures stands { RemovalStands }
+    ensures opens { RemovalOpens }
 {}
