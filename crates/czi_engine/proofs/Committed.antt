@@ -12,23 +12,25 @@ use Rattle.czi_machine.specs.Cover.{between, cover}
 use Rattle.czi_machine.specs.Edit.{remove, in_subblocks, after}
 use Rattle.czi_machine.specs.Laws.{Lies, LiesLoosely, Leads}
 use Rattle.czi_machine.specs.Machine.{after_edit}
-use Rattle.czi_machine.specs.Removal.{with_directory}
+use Rattle.czi_machine.specs.Places.{edit_next, laid}
+use Rattle.czi_machine.specs.Removal.{with_directory, removed_layout}
 use Rattle.czi_machine.specs.Sound.{IsTidy, IsSound}
 use Rattle.czi_machine.specs.State.{State}
 use Rattle.czi_machine.specs.Turn.{Turn, turned, new_segments, SpansAt}
 use Rattle.czi_machine.specs.Writes.{AreOnce, WritesIn, WritesAround, marked}
 use Rattle.czi_machine.specs.Written.{Piece, byte_of, Wrote}
 use Rattle.czi_machine.proofs.AnyCommand.{once_after}
-use Rattle.czi_machine.proofs.Anywhere.{removes_anywhere}
+use Rattle.czi_machine.proofs.Anywhere.{apart_tidy, removes_anywhere}
 use Rattle.czi_machine.proofs.Clear.{HeaderAt, header_at_front, not_written, turned_cover}
 use Rattle.czi_machine.proofs.Cover.{between_in, between_low, between_high}
 use Rattle.czi_machine.proofs.FromPlan.{planned, planned_anywhere}
 use Rattle.czi_machine.proofs.Led.{edits_lead, led, stays_sound, stays_tidy}
-use Rattle.czi_machine.proofs.Removal.{removes}
+use Rattle.czi_machine.proofs.Removal.{length-mapped, removal_laid, removes}
 use Rattle.czi_vault.specs.Recovered.{Stands, StandsOr}
 use Rattle.czi_engine.specs.Commit.{Step, made_of, pieces_in, IsStep, IsPlanned, IsRemoval, removed}
 use Rattle.czi_engine.specs.Holes.{AreHigh, view_of}
 use Rattle.czi_engine.specs.Stands.{IsSettled, StandsOn, OpensAs, EitherSide}
+use Rattle.czi_engine.proofs.Walked.{lies_at, many_tiles}
 use Rattle.czi_engine.proofs.Made.{made_wrote}
 use Rattle.czi_engine.proofs.Opening.{recovered_opens, view_opens}
 
@@ -55,7 +57,7 @@ made_settled bytes other live s s' t pieces lies is settled leads at inside wrot
   | inl h ↦ wrote k (omega (arith, to, long)) (λ e. omega (arith, e, h)) ∙ (ap (λ o. unwrap_or o (get_or bytes k 0)) (none_pending bytes live s s' t pieces k lies is leads at inside from to) ∙ settled k from to)
 ]
 
-pub commit_stands : (start bytes : List ℕ) (live : Live) (s s' : State) (t : Turn) (c : Step) → StandsOn start bytes live s → IsPlanned start bytes live s s' t c → IsStep bytes c
+pub commit_stands : (start bytes : List ℕ) (live : Live) (s s' : State) (t : Turn) (c : Step) → StandsOn start bytes live s → IsPlanned bytes live s s' t c → IsStep bytes c
     → StandsOn start (made_of c bytes) (turned t live) s'
 commit_stands start bytes live s s' t c on plan is =
     let made = made_wrote bytes c is in
@@ -66,7 +68,7 @@ commit_stands start bytes live s s' t c on plan is =
       tidy = stays_tidy s s' on.tidy plan.leads;
       settled = made_settled bytes other live s s' t (pieces_in c) on.lies on.tidy on.settled plan.leads plan.spans plan.plans.around.inside made.0 (omega (arith, made.1, is.least)) made.2;
       steady = λ was. let both = on.steady was in
-          ((planned bytes other s s' live plan.effect t (pieces_in c) both.0 both.1 plan.leads (plan.places was) plan.document plan.plans made.0 long).1, stays_sound s s' both.1 plan.leads);
+          ((planned bytes other s s' live plan.effect t (pieces_in c) both.0 both.1 plan.leads (lies_at s'.layout (turned t live) plan.spans (stays_sound s s' both.1 plan.leads).layout.walked.1) plan.document plan.plans made.0 long).1, stays_sound s s' both.1 plan.leads);
     }
 
 pub either_side : (start bytes other image journal : List ℕ) (live live' : Live) (s s' : State) (high : AreHigh s) → StandsOn start bytes live s → StandsOn start other live' s'
@@ -75,21 +77,23 @@ either_side start bytes other image journal live live' s s' high on after side =
     (λ before. inl (view_opens start bytes image journal live s high on before))
     (λ made. inr (recovered_opens start other image journal live' s' after made)) side
 
-pub commit_opens : (start bytes image journal : List ℕ) (live : Live) (s s' : State) (t : Turn) (c : Step) (high : AreHigh s) → StandsOn start bytes live s → IsPlanned start bytes live s s' t c → IsStep bytes c
+pub commit_opens : (start bytes image journal : List ℕ) (live : Live) (s s' : State) (t : Turn) (c : Step) (high : AreHigh s) → StandsOn start bytes live s → IsPlanned bytes live s s' t c → IsStep bytes c
     → StandsOr (view_of bytes s high) (made_of c bytes) image journal → EitherSide start image journal s s'
 commit_opens start bytes image journal live s s' t c high on plan is side =
     either_side start bytes (made_of c bytes) image journal live (turned t live) s s' high on (commit_stands start bytes live s s' t c on plan is) side
 
 -- a removal
-pub removal_stands : (start bytes : List ℕ) (live : Live) (s : State) (dims : List Dim) (i : ℕ) (d : Directory) (l' : Layout) (c : Step) → StandsOn start bytes live s → IsRemoval live s dims i d l' c → IsStep bytes c
-    → (after_edit s (remove dims) ≡ Ok (removed s i l')) × StandsOn start (made_of c bytes) (turned (with_directory d (out i)) live) (removed s i l')
-removal_stands start bytes live s dims i d l' c on plan is =
+pub removal_stands : (start bytes : List ℕ) (live : Live) (s : State) (dims : List Dim) (i : ℕ) (d : Directory) (c : Step) → StandsOn start bytes live s → IsRemoval live s dims i d c → IsStep bytes c
+    → (after_edit s (remove dims) ≡ Ok (removed s i d.segment.at)) × StandsOn start (made_of c bytes) (turned (with_directory d (out i)) live) (removed s i d.segment.at)
+removal_stands start bytes live s dims i d c on plan is =
     let made = made_wrote bytes c is in
     let other : List ℕ = made_of c bytes in
-    let s' : State = removed s i l' in
+    let s' : State = removed s i d.segment.at in
+    let l' : Layout = removed_layout s i d.segment.at in
+    let laid_is : laid s (edit_next s (in_subblocks (out i))) ≡ Ok l' = removal_laid s i d.segment.at (apart_tidy s on.tidy) (omega (arith, plan.plans.there, many_tiles s live on.lies.extents)) plan.plans.directory.place in
     let t : Turn = with_directory d (out i) in
     let long : length other ≡ l'.length = made.1 ∙ plan.length in
-    let loosely = removes_anywhere bytes other s live dims i d plan.padding l' (pieces_in c) on.lies on.tidy plan.effect plan.laid plan.plans made.0 long in
+    let loosely = removes_anywhere bytes other s live dims i d plan.padding l' (pieces_in c) on.lies on.tidy plan.effect laid_is plan.plans made.0 long in
     let leads : Leads s s' = edits_lead s s' (remove dims) loosely.0 in (
       loosely.0,
       record {
@@ -97,11 +101,11 @@ removal_stands start bytes live s dims i d l' c on plan is =
         tidy = stays_tidy s s' on.tidy leads;
         settled = made_settled bytes other live s s' t (pieces_in c) on.lies on.tidy on.settled leads loosely.1.extents plan.plans.around.inside made.0 (omega (arith, made.1, is.least)) made.2;
         steady = λ was. let both = on.steady was in
-            ((removes bytes other s live dims i d plan.padding l' (pieces_in c) both.0 both.1 plan.effect plan.laid plan.plans made.0 long).1, stays_sound s s' both.1 leads);
+            ((removes bytes other s live dims i d plan.padding l' (pieces_in c) both.0 both.1 plan.effect laid_is plan.plans made.0 long).1, stays_sound s s' both.1 leads);
       },
     )
 
-pub removal_opens : (start bytes image journal : List ℕ) (live : Live) (s : State) (dims : List Dim) (i : ℕ) (d : Directory) (l' : Layout) (c : Step) (high : AreHigh s) → StandsOn start bytes live s → IsRemoval live s dims i d l' c → IsStep bytes c
-    → StandsOr (view_of bytes s high) (made_of c bytes) image journal → EitherSide start image journal s (removed s i l')
-removal_opens start bytes image journal live s dims i d l' c high on plan is side =
-    either_side start bytes (made_of c bytes) image journal live (turned (with_directory d (out i)) live) s (removed s i l') high on (removal_stands start bytes live s dims i d l' c on plan is).1 side
+pub removal_opens : (start bytes image journal : List ℕ) (live : Live) (s : State) (dims : List Dim) (i : ℕ) (d : Directory) (c : Step) (high : AreHigh s) → StandsOn start bytes live s → IsRemoval live s dims i d c → IsStep bytes c
+    → StandsOr (view_of bytes s high) (made_of c bytes) image journal → EitherSide start image journal s (removed s i d.segment.at)
+removal_opens start bytes image journal live s dims i d c high on plan is side =
+    either_side start bytes (made_of c bytes) image journal live (turned (with_directory d (out i)) live) s (removed s i d.segment.at) high on (removal_stands start bytes live s dims i d c on plan is).1 side

@@ -3,4 +3,5 @@ mod Outside
 mod Opening
 mod Newly
 mod Made
+mod Walked
 mod Committed

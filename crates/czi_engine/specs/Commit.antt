@@ -2,18 +2,16 @@
 use Rattle.std.specs.Prelude.{◌≡◌, ◌+◌, ◌≤◌, ℕ, ⊤, max, List, [], ◌∷◌, ◌++◌, map, length, Ok}
 use Rattle.std.specs.List.{AllByRecursion}
 use Rattle.czi_format.specs.Entry.{Dim}
-use Rattle.czi_format.specs.Layout.{Layout, IsSteady}
 use Rattle.czi_format.specs.Live.{Live, Directory}
 use Rattle.czi_links.specs.Record.{Bytes, Record, EndWithin, end_of}
 use Rattle.czi_machine.specs.Change.{out}
 use Rattle.czi_machine.specs.Edit.{DocumentEffect, remove, effect, in_subblocks, after}
 use Rattle.czi_machine.specs.Laws.{Leads}
 use Rattle.czi_machine.specs.Machine.{edited}
-use Rattle.czi_machine.specs.Places.{edit_next, laid}
 use Rattle.czi_machine.specs.Planned.{Plans}
-use Rattle.czi_machine.specs.Removal.{PlansRemoval}
+use Rattle.czi_machine.specs.Removal.{PlansRemoval, removed_layout}
 use Rattle.czi_machine.specs.State.{State}
-use Rattle.czi_machine.specs.Turn.{Turn, turned, LiesAt, SpansAt}
+use Rattle.czi_machine.specs.Turn.{Turn, turned, SpansAt}
 use Rattle.czi_machine.specs.Written.{Piece, IsZeros}
 use Rattle.czi_vault.specs.Recovered.{with_links, applied}
 
@@ -53,23 +51,21 @@ pub record IsStep (bytes : List ℕ) (c : Step) : Type 0 where
   pub long : c.commits.committed ≤ length (written c bytes)
 
 -- Its pieces are the plan of a command, which leads from one state to another and turns what is live.
-pub record IsPlanned (start bytes : List ℕ) (live : Live) (s s' : State) (t : Turn) (c : Step) : Type 0 where
+pub record IsPlanned (bytes : List ℕ) (live : Live) (s s' : State) (t : Turn) (c : Step) : Type 0 where
   pub effect : DocumentEffect
   pub leads : Leads s s'
   pub document : s'.document ≡ after effect s.document
   pub spans : SpansAt s'.layout (turned t live)
-  pub places : IsSteady start → LiesAt s'.layout (turned t live)
   pub plans : Plans bytes s.layout s'.layout live effect t (pieces_in c)
   pub length : c.commits.committed ≡ s'.layout.length
 
--- the same of the removal of the subblock at a place
-pub record IsRemoval (live : Live) (s : State) (dims : List Dim) (i : ℕ) (d : Directory) (l' : Layout) (c : Step) : Type 0 where
+-- The same of the removal of the subblock at a place, with its new directory.
+pub record IsRemoval (live : Live) (s : State) (dims : List Dim) (i : ℕ) (d : Directory) (c : Step) : Type 0 where
   pub effect : effect s.document (remove dims) ≡ Ok (in_subblocks (out i))
-  pub laid : laid s (edit_next s (in_subblocks (out i))) ≡ Ok l'
   pub padding : ℕ
-  pub plans : PlansRemoval s live i d padding l' (pieces_in c)
-  pub length : c.commits.committed ≡ l'.length
+  pub plans : PlansRemoval s live i d padding (removed_layout s i d.segment.at) (pieces_in c)
+  pub length : c.commits.committed ≡ (removed_layout s i d.segment.at).length
 
--- the state after it
-abbrev pub removed : State → ℕ → Layout → State
-removed s i l' = edited s (after (in_subblocks (out i)) s.document) l'
+-- the state after it, with the new directory at a place
+abbrev pub removed : State → ℕ → ℕ → State
+removed s i at = edited s (after (in_subblocks (out i)) s.document) (removed_layout s i at)

@@ -2,7 +2,7 @@
 use Rattle.std.specs.Prelude.{◌≡◌, ◌≤◌, ℕ, pos, List, [], length, slice_index, Ok}
 use Rattle.czi_format.specs.Bytes.{IsBytes}
 use Rattle.czi_format.specs.Entry.{Dim}
-use Rattle.czi_format.specs.Layout.{Layout, HasLayout}
+use Rattle.czi_format.specs.Layout.{HasLayout}
 use Rattle.czi_format.specs.Live.{Live, Directory, document, update_pending}
 use Rattle.czi_format.specs.Shows.{Reaches}
 use Rattle.czi_machine.specs.Change.{out}
@@ -45,19 +45,19 @@ MadeWrote = (bytes : List ℕ) (c : Step) → IsStep bytes c → Wrote bytes (ma
 
 -- after a command was committed, the bytes have the state to which the command leads
 abbrev pub CommitStands : Type 0
-CommitStands = (start bytes : List ℕ) (live : Live) (s s' : State) (t : Turn) (c : Step) → StandsOn start bytes live s → IsPlanned start bytes live s s' t c → IsStep bytes c
+CommitStands = (start bytes : List ℕ) (live : Live) (s s' : State) (t : Turn) (c : Step) → StandsOn start bytes live s → IsPlanned bytes live s s' t c → IsStep bytes c
     → StandsOn start (made_of c bytes) (turned t live) s'
 
 -- and while it is, everything that a crash may leave opens as the state before it or as the one after it
 abbrev pub CommitOpens : Type 0
-CommitOpens = (start bytes image journal : List ℕ) (live : Live) (s s' : State) (t : Turn) (c : Step) (high : AreHigh s) → StandsOn start bytes live s → IsPlanned start bytes live s s' t c → IsStep bytes c
+CommitOpens = (start bytes image journal : List ℕ) (live : Live) (s s' : State) (t : Turn) (c : Step) (high : AreHigh s) → StandsOn start bytes live s → IsPlanned bytes live s s' t c → IsStep bytes c
     → StandsOr (view_of bytes s high) (made_of c bytes) image journal → EitherSide start image journal s s'
 
 -- the same of a removal
 abbrev pub RemovalStands : Type 0
-RemovalStands = (start bytes : List ℕ) (live : Live) (s : State) (dims : List Dim) (i : ℕ) (d : Directory) (l' : Layout) (c : Step) → StandsOn start bytes live s → IsRemoval live s dims i d l' c → IsStep bytes c
-    → (after_edit s (remove dims) ≡ Ok (removed s i l')) × StandsOn start (made_of c bytes) (turned (with_directory d (out i)) live) (removed s i l')
+RemovalStands = (start bytes : List ℕ) (live : Live) (s : State) (dims : List Dim) (i : ℕ) (d : Directory) (c : Step) → StandsOn start bytes live s → IsRemoval live s dims i d c → IsStep bytes c
+    → (after_edit s (remove dims) ≡ Ok (removed s i d.segment.at)) × StandsOn start (made_of c bytes) (turned (with_directory d (out i)) live) (removed s i d.segment.at)
 
 abbrev pub RemovalOpens : Type 0
-RemovalOpens = (start bytes image journal : List ℕ) (live : Live) (s : State) (dims : List Dim) (i : ℕ) (d : Directory) (l' : Layout) (c : Step) (high : AreHigh s) → StandsOn start bytes live s → IsRemoval live s dims i d l' c → IsStep bytes c
-    → StandsOr (view_of bytes s high) (made_of c bytes) image journal → EitherSide start image journal s (removed s i l')
+RemovalOpens = (start bytes image journal : List ℕ) (live : Live) (s : State) (dims : List Dim) (i : ℕ) (d : Directory) (c : Step) (high : AreHigh s) → StandsOn start bytes live s → IsRemoval live s dims i d c → IsStep bytes c
+    → StandsOr (view_of bytes s high) (made_of c bytes) image journal → EitherSide start image journal s (removed s i d.segment.at)
