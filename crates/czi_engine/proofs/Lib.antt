@@ -1,4 +1,5 @@
 mod Ranges
+mod Writable
 mod Outside
 mod Opening
 mod Newly

@@ -36,7 +36,7 @@ interior_fewer s k = elim (side (interior s).at (end_of (interior s)) k) [
   | here h l e ↦ omega (arith, e, between_in s.at (end_of s) k (omega (arith, h)) (omega (arith, l, h)))
 ]
 
-interiors_fewer : (spans : List Span) (k : ℕ) → cover (map interior spans) k ≤ cover spans k
+pub interiors_fewer : (spans : List Span) (k : ℕ) → cover (map interior spans) k ≤ cover spans k
 interiors_fewer [] k = omega arith
 interiors_fewer (s ∷ spans) k = omega (arith, interior_fewer s k, interiors_fewer spans k)
 

@@ -1,20 +1,26 @@
 -- The laws of what an image and a journal open as, as statements.
-use Rattle.std.specs.Prelude.{◌≡◌, ◌≤◌, ℕ, pos, List, [], length, slice_index, Ok}
+use Rattle.std.specs.List.{AllByRecursion}
+use Rattle.std.specs.Prelude.{◌≡◌, ◌+◌, ◌-◌, ◌≤◌, ℕ, pos, List, [], length, slice_index, Ok}
 use Rattle.czi_format.specs.Bytes.{IsBytes}
 use Rattle.czi_format.specs.Entry.{Dim}
 use Rattle.czi_format.specs.Layout.{HasLayout}
 use Rattle.czi_format.specs.Live.{Live, Directory, document, update_pending}
 use Rattle.czi_format.specs.Shows.{Reaches}
+use Rattle.czi_format.specs.Space.{place_for}
+use Rattle.czi_format.specs.Span.{Span}
+use Rattle.czi_links.specs.Record.{Bytes}
 use Rattle.czi_machine.specs.Change.{out}
 use Rattle.czi_machine.specs.Edit.{remove}
 use Rattle.czi_machine.specs.Machine.{after_edit}
+use Rattle.czi_machine.specs.Places.{space_of}
 use Rattle.czi_machine.specs.Removal.{with_directory}
 use Rattle.czi_machine.specs.State.{State}
 use Rattle.czi_machine.specs.Turn.{Turn, turned}
-use Rattle.czi_machine.specs.Written.{Wrote}
+use Rattle.czi_machine.specs.Written.{Wrote, IsZeros}
 use Rattle.czi_rig.specs.Disk.{Covers, SameOutside}
-use Rattle.czi_vault.specs.Recovered.{Recovered, Stands, StandsOr}
-use Rattle.czi_engine.specs.Commit.{Step, made_of, pieces_in, IsStep, IsPlanned, IsRemoval, removed}
+use Rattle.czi_vault.specs.Recovered.{Recovered, Stands, StandsOr, IsFree}
+use Rattle.czi_engine.specs.Commit.{piece_of, Step, made_of, pieces_in, IsStep, IsPlanned, IsRemoval, removed}
+use Rattle.czi_engine.specs.Free.{LiesFree, HoldsUsable, AreFree}
 use Rattle.czi_engine.specs.Holes.{holes_of, AreHigh, view_of}
 use Rattle.czi_engine.specs.Stands.{OpensAs, EitherSide, StandsOn}
 
@@ -61,3 +67,17 @@ RemovalStands = (start bytes : List ℕ) (live : Live) (s : State) (dims : List 
 abbrev pub RemovalOpens : Type 0
 RemovalOpens = (start bytes image journal : List ℕ) (live : Live) (s : State) (dims : List Dim) (i : ℕ) (d : Directory) (c : Step) (high : AreHigh s) → StandsOn start bytes live s → IsRemoval live s dims i d c → IsStep bytes c
     → StandsOr (view_of bytes s high) (made_of c bytes) image journal → EitherSide start image journal s (removed s i d.segment.at)
+
+-- writes into free space are free in the view of a state, whether all spans of formers are held or those that can be used again
+abbrev pub FreeInView : Type 0
+FreeInView = (start bytes : List ℕ) (live : Live) (s : State) (high : AreHigh s) (held' : List Span) (writes : List Bytes) → StandsOn start bytes live s → HoldsUsable s held'
+    → AllByRecursion (λ (w : Bytes). LiesFree held' s.layout.deleted s.layout.length w.place (length w.bytes)) writes → AreFree (view_of bytes s high) writes
+
+-- so are zeros behind the end
+abbrev pub ZerosInView : Type 0
+ZerosInView = (bytes : List ℕ) (s : State) (high : AreHigh s) (zeros : List Bytes) → AllByRecursion (λ (z : Bytes). IsZeros bytes (piece_of z)) zeros → AreFree (view_of bytes s high) zeros
+
+-- and the data of a new segment where its need fits first: all but its header
+abbrev pub PlaceInView : Type 0
+PlaceInView = (start bytes : List ℕ) (live : Live) (s : State) (high : AreHigh s) (need at : ℕ) → StandsOn start bytes live s → place_for (space_of s) need ≡ Ok at
+    → IsFree (view_of bytes s high) (at + 32) (need - 32)

@@ -1,4 +1,5 @@
 pub mod Commit
+pub mod Free
 pub mod Holes
 pub mod Laws
 pub mod Stands

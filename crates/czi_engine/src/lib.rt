@@ -2,7 +2,7 @@
 //! laws of one commit.
 #![tactic(auto)]
 
-ghost use Rattle.czi_engine.specs.Laws.{HolesAreHigh, StandsOutside, RecoveredOpens, ViewOpens, OpenedStands, MadeWrote, CommitStands, CommitOpens, RemovalStands, RemovalOpens};
+ghost use Rattle.czi_engine.specs.Laws.{HolesAreHigh, StandsOutside, RecoveredOpens, ViewOpens, OpenedStands, MadeWrote, CommitStands, CommitOpens, RemovalStands, RemovalOpens, FreeInView, ZerosInView, PlaceInView};
 
 /// What stands for the bytes of a state, outside the holes of the state, opens as the state.
 pub fn views_open()
@@ -33,4 +33,12 @@ pub fn one_commit()
 pub fn one_removal()
     ensures stands { RemovalStands }
     ensures opens { RemovalOpens }
+{}
+
+/// What is written before a commit goes where nothing needs the bytes of the view: into free space, or
+/// past the end.
+pub fn writes_are_free()
+    ensures writes { FreeInView }
+    ensures zeros { ZerosInView }
+    ensures place { PlaceInView }
 {}
