@@ -6,3 +6,4 @@ mod Newly
 mod Made
 mod Walked
 mod Committed
+mod Touching

@@ -22,6 +22,7 @@ use Rattle.czi_vault.specs.Recovered.{Recovered, Stands, StandsOr, IsFree}
 use Rattle.czi_engine.specs.Commit.{piece_of, Step, made_of, pieces_in, IsStep, IsPlanned, IsRemoval, removed}
 use Rattle.czi_engine.specs.Free.{LiesFree, HoldsUsable, AreFree}
 use Rattle.czi_engine.specs.Holes.{holes_of, AreHigh, view_of}
+use Rattle.czi_engine.specs.Moment.{AlikeInItems, BringsApart}
 use Rattle.czi_engine.specs.Stands.{OpensAs, EitherSide, StandsOn}
 
 -- the holes of a state in bytes are high
@@ -81,3 +82,12 @@ ZerosInView = (bytes : List ℕ) (s : State) (high : AreHigh s) (zeros : List By
 abbrev pub PlaceInView : Type 0
 PlaceInView = (start bytes : List ℕ) (live : Live) (s : State) (high : AreHigh s) (need at : ℕ) → StandsOn start bytes live s → place_for (space_of s) need ≡ Ok at
     → IsFree (view_of bytes s high) (at + 32) (need - 32)
+
+-- while a command is committed, no write touches an item that the document before it and the one after it both need
+abbrev pub CommitTouches : Type 0
+CommitTouches = (start bytes : List ℕ) (live : Live) (s s' : State) (t : Turn) (c : Step) (high : AreHigh s) → StandsOn start bytes live s → IsPlanned bytes live s s' t c → IsStep bytes c → BringsApart live t
+    → AlikeInItems (view_of bytes s high) (made_of c bytes)
+
+abbrev pub RemovalTouches : Type 0
+RemovalTouches = (start bytes : List ℕ) (live : Live) (s : State) (dims : List Dim) (i : ℕ) (d : Directory) (c : Step) (high : AreHigh s) → StandsOn start bytes live s → IsRemoval live s dims i d c → IsStep bytes c
+    → AlikeInItems (view_of bytes s high) (made_of c bytes)

@@ -2,7 +2,7 @@
 //! laws of one commit.
 #![tactic(auto)]
 
-ghost use Rattle.czi_engine.specs.Laws.{HolesAreHigh, StandsOutside, RecoveredOpens, ViewOpens, OpenedStands, MadeWrote, CommitStands, CommitOpens, RemovalStands, RemovalOpens, FreeInView, ZerosInView, PlaceInView};
+ghost use Rattle.czi_engine.specs.Laws.{HolesAreHigh, StandsOutside, RecoveredOpens, ViewOpens, OpenedStands, MadeWrote, CommitStands, CommitOpens, RemovalStands, RemovalOpens, FreeInView, ZerosInView, PlaceInView, CommitTouches, RemovalTouches};
 
 /// What stands for the bytes of a state, outside the holes of the state, opens as the state.
 pub fn views_open()
@@ -41,4 +41,11 @@ pub fn writes_are_free()
     ensures writes { FreeInView }
     ensures zeros { ZerosInView }
     ensures place { PlaceInView }
+{}
+
+/// Any two pairs that a crash may leave at one moment of a command stand for the same bytes in each
+/// item extent that both have, header and padding included: no write touches it.
+pub fn no_write_touches()
+    ensures commit { CommitTouches }
+    ensures removal { RemovalTouches }
 {}
