@@ -1,23 +1,22 @@
 -- One commit: from the bytes of a state to those of the next.
-use Rattle.std.proofs.Common.{◌≡◌, ◌⊎◌, ℕ, ◌+◌, ◌≤◌, ◌<◌, List, map, length, get_or, None, Ok, refl, ap, sym, ◌∙◌, arith, inl, inr, ⊎_elim, subst}
+use Rattle.std.proofs.Common.{◌≡◌, ℕ, ◌≤◌, ◌<◌, List, length, get_or, None, Ok, ap, ◌∙◌, arith, inl, inr, ⊎_elim}
 use Rattle.std.specs.Option.{unwrap_or}
 use Rattle.std.proofs.lemmas.Bool.{cases_lt}
 use Rattle.czi_format.specs.Entry.{Dim}
-use Rattle.czi_format.specs.Layout.{Layout, IsSteady}
-use Rattle.czi_format.specs.Live.{Live, Directory, segments}
+use Rattle.czi_format.specs.Layout.{Layout}
+use Rattle.czi_format.specs.Live.{Live, Directory}
 use Rattle.czi_format.specs.Segment.{Segment, extent}
-use Rattle.czi_format.specs.Span.{Span, end_of}
+use Rattle.czi_format.specs.Span.{end_of}
 use Rattle.czi_machine.specs.Change.{out}
-use Rattle.czi_machine.specs.Cover.{between, cover}
 use Rattle.czi_machine.specs.Edit.{remove, in_subblocks, after}
-use Rattle.czi_machine.specs.Laws.{Lies, LiesLoosely, Leads}
+use Rattle.czi_machine.specs.Laws.{LiesLoosely, Leads}
 use Rattle.czi_machine.specs.Machine.{after_edit}
 use Rattle.czi_machine.specs.Places.{edit_next, laid}
 use Rattle.czi_machine.specs.Removal.{with_directory, removed_layout}
-use Rattle.czi_machine.specs.Sound.{IsTidy, IsSound}
+use Rattle.czi_machine.specs.Sound.{IsTidy}
 use Rattle.czi_machine.specs.State.{State}
-use Rattle.czi_machine.specs.Turn.{Turn, turned, new_segments, SpansAt}
-use Rattle.czi_machine.specs.Writes.{AreOnce, WritesIn, WritesAround, marked}
+use Rattle.czi_machine.specs.Turn.{Turn, turned, SpansAt}
+use Rattle.czi_machine.specs.Writes.{AreOnce, WritesIn, marked}
 use Rattle.czi_machine.specs.Written.{Piece, byte_of, Wrote}
 use Rattle.czi_machine.proofs.AnyCommand.{once_after}
 use Rattle.czi_machine.proofs.Anywhere.{apart_tidy, removes_anywhere}
@@ -25,17 +24,17 @@ use Rattle.czi_machine.proofs.Clear.{HeaderAt, header_at_front, not_written, tur
 use Rattle.czi_machine.proofs.Cover.{between_in, between_low, between_high}
 use Rattle.czi_machine.proofs.FromPlan.{planned, planned_anywhere}
 use Rattle.czi_machine.proofs.Led.{edits_lead, led, stays_sound, stays_tidy}
-use Rattle.czi_machine.proofs.Removal.{length-mapped, removal_laid, removes}
-use Rattle.czi_vault.specs.Recovered.{Stands, StandsOr}
+use Rattle.czi_machine.proofs.Removal.{removal_laid, removes}
+use Rattle.czi_vault.specs.Recovered.{StandsOr}
 use Rattle.czi_engine.specs.Commit.{Step, made_of, pieces_in, IsStep, IsPlanned, IsRemoval, removed}
 use Rattle.czi_engine.specs.Holes.{AreHigh, view_of}
-use Rattle.czi_engine.specs.Stands.{IsSettled, StandsOn, OpensAs, EitherSide}
+use Rattle.czi_engine.specs.Stands.{IsSettled, StandsOn, EitherSide}
 use Rattle.czi_engine.proofs.Walked.{lies_at, many_tiles}
 use Rattle.czi_engine.proofs.Made.{made_wrote}
 use Rattle.czi_engine.proofs.Opening.{recovered_opens, view_opens}
 
 -- nothing is written into UpdatePending
-none_pending : (bytes : List ℕ) (live : Live) (s s' : State) (t : Turn) (pieces : List Piece) (k : ℕ) → LiesLoosely bytes live s → IsTidy s → Leads s s' → SpansAt s'.layout (turned t live)
+pub none_pending : (bytes : List ℕ) (live : Live) (s s' : State) (t : Turn) (pieces : List Piece) (k : ℕ) → LiesLoosely bytes live s → IsTidy s → Leads s s' → SpansAt s'.layout (turned t live)
     → WritesIn t (marked s.layout s'.layout) pieces → 100 ≤ k → k < 104 → byte_of pieces k ≡ None
 none_pending bytes live s s' t pieces k lies is leads at inside from to =
     let H : Segment = live.header.segment in

@@ -7,3 +7,5 @@ mod Made
 mod Walked
 mod Committed
 mod Touching
+mod Held
+mod Reading

@@ -1,5 +1,5 @@
 -- The bytes that writes and a commit make are those of the pieces.
-use Rattle.std.proofs.Common.{◌≡◌, ℕ, zero, ◌+◌, ◌-◌, ◌≤◌, ◌<◌, max, List, [], ◌∷◌, ◌++◌, map, take, drop, length, get_or, replicate, refl, ap, sym, ◌∙◌, arith, subst, append_assoc, append-nil}
+use Rattle.std.proofs.Common.{◌≡◌, ℕ, ◌+◌, ◌-◌, ◌≤◌, max, List, [], ◌∷◌, ◌++◌, take, drop, length, get_or, replicate, refl, ap, sym, ◌∙◌, arith, subst, append_assoc, append-nil}
 use Rattle.std.specs.List.{AllByRecursion}
 use Rattle.std.proofs.lemmas.List.{length-take-le, map-append}
 use Rattle.std.proofs.lemmas.List.Elements.{recursion_from_All}
@@ -9,7 +9,6 @@ use Rattle.czi_links.specs.Record.{Bytes, Record, end_of}
 use Rattle.czi_format.specs.Span.{end_of as span_end}
 use Rattle.czi_machine.specs.Written.{Piece, piece_span, over, all_over, settled, linked, Wrote, IsZeros}
 use Rattle.czi_machine.proofs.Over.{length-over, length-all_over, applied_is, wrote_zeros}
-use Rattle.czi_machine.proofs.Tiled.{map-All}
 use Rattle.czi_vault.specs.Recovered.{with_links, applied}
 use Rattle.czi_engine.specs.Commit.{piece_of, pieces_of, BeginWithin, Step, written, made_of, pieces_in, IsStep}
 
@@ -70,8 +69,7 @@ made_wrote bytes c is =
     let cut : List ℕ = take r.committed (written c bytes) in
     let cut_long : length cut ≡ r.committed = length-take-le r.committed (written c bytes) is.long in
     let links : with_links r.links cut ≡ all_over cut (pieces_of r.links) = with_links_is r.links cut (subst (λ (n : ℕ). BeginWithin n r.links) (sym cut_long) (ends_begin r.links r.committed ends)) in
-    let all_long : length (all_over cut (pieces_of r.links)) ≡ r.committed = length-all_over cut (pieces_of r.links) r.committed cut_long (ends_pieces r.links r.committed ends) in
-    (
+    let all_long : length (all_over cut (pieces_of r.links)) ≡ r.committed = length-all_over cut (pieces_of r.links) r.committed cut_long (ends_pieces r.links r.committed ends) in (
       wrote_zeros bytes (made_of c bytes) (pieces_of c.zeros) (pieces_in c) (zero_pieces bytes c.zeros is.zeros) all,
       long,
       overwritten_at 100 (0 ∷ []) (with_links r.links cut) 0 (omega (arith, ap length links, all_long, is.least)) (omega arith),

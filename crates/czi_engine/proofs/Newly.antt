@@ -1,16 +1,16 @@
 -- What is opened stands on the state of its layout.
-use Rattle.std.proofs.Common.{◌≡◌, ℕ, zero, suc, ◌+◌, ◌-◌, ◌<◌, ◌≤◌, ◌^◌, pos, List, [], ◌∷◌, map, take, drop, length, get_or, Option, Some, None, option_map, refl, ap, sym, ◌∙◌, arith, subst}
-use Rattle.std.specs.Int.{cast_signed, cast_unsigned, from_le_bytes, w32}
+use Rattle.std.proofs.Common.{◌≡◌, ℕ, zero, suc, ◌+◌, ◌-◌, ◌<◌, ◌^◌, pos, List, [], ◌∷◌, map, drop, length, get_or, Option, Some, None, option_map, refl, ap, sym, ◌∙◌, arith, subst}
+use Rattle.std.specs.Int.{cast_unsigned, from_le_bytes, w32}
 use Rattle.std.proofs.lemmas.Int.{of_z-to_z}
 use Rattle.std.proofs.lemmas.List.{get_or-take, get_or-drop}
 use Rattle.czi_format.specs.Bytes.{IsBytes, bytes_at, i32_at}
-use Rattle.czi_format.specs.Layout.{Place, Layout, HasLayout, IsSteady, place_of, layout}
+use Rattle.czi_format.specs.Layout.{Place, Layout, HasLayout, place_of, layout}
 use Rattle.czi_format.specs.Live.{Live, Directory, Tile, AttItem, MetaItem, document, update_pending}
 use Rattle.czi_format.specs.Segment.{Segment, extent}
 use Rattle.czi_format.specs.Shows.{Reaches}
 use Rattle.czi_format.proofs.Limits.{part_bytes}
 use Rattle.czi_format.proofs.Unique.{reaches_unique}
-use Rattle.czi_machine.specs.Laws.{Lies, LiesLoosely}
+use Rattle.czi_machine.specs.Laws.{Lies}
 use Rattle.czi_machine.specs.State.{State}
 use Rattle.czi_machine.specs.Turn.{SpansAt}
 use Rattle.czi_machine.proofs.Lying.{opened_sound}

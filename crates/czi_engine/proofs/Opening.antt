@@ -1,17 +1,16 @@
 -- What stands for the bytes of a state opens as the state.
-use Rattle.std.proofs.Common.{◌≡◌, ℕ, ◌+◌, ◌<◌, ◌≤◌, pos, List, ◌∷◌, map, take, drop, length, get_or, refl, ap, sym, ◌∙◌, arith}
+use Rattle.std.proofs.Common.{◌≡◌, ℕ, ◌+◌, ◌<◌, pos, List, map, drop, length, get_or, ap, sym, ◌∙◌, arith}
 use Rattle.std.specs.Int.{cast_signed, from_le_bytes, w32}
 use Rattle.std.proofs.lemmas.List.{get_or-take, get_or-drop}
 use Rattle.czi_format.specs.Bytes.{bytes_at, i32_at}
-use Rattle.czi_format.specs.Layout.{Layout, HasLayout, IsSteady}
+use Rattle.czi_format.specs.Layout.{Layout, HasLayout}
 use Rattle.czi_format.specs.Live.{Live, segments, update_pending}
 use Rattle.czi_format.specs.Segment.{extent}
 use Rattle.czi_format.proofs.Unique.{reaches_unique}
-use Rattle.czi_machine.specs.Headline.{SameExtents, LiesAs}
+use Rattle.czi_machine.specs.Headline.{SameExtents}
 use Rattle.czi_machine.specs.Laws.{LiesLoosely}
-use Rattle.czi_machine.specs.Places.{live_places}
 use Rattle.czi_machine.specs.Sound.{live_spans}
-use Rattle.czi_machine.specs.State.{State, spans_of}
+use Rattle.czi_machine.specs.State.{State}
 use Rattle.czi_machine.proofs.AnyCommand.{all_spans}
 use Rattle.czi_machine.proofs.Opened.{layout_spans}
 use Rattle.czi_vault.specs.Recovered.{Recovered, Stands}

@@ -1,19 +1,16 @@
 -- What agrees with bytes outside the holes of a state has the state as well.
-use Rattle.std.proofs.Common.{◌≡◌, ℕ, ◌+◌, ◌-◌, ◌≤◌, ◌<◌, List, map, length, get_or, refl, ap, sym, ◌∙◌, arith, inl, inr}
+use Rattle.std.proofs.Common.{◌≡◌, ℕ, ◌+◌, ◌-◌, ◌≤◌, ◌<◌, List, map, length, get_or, sym, ◌∙◌, arith}
 use Rattle.std.specs.List.{AllByRecursion}
-use Rattle.std.proofs.lemmas.Bool.{cases_lt}
-use Rattle.czi_format.specs.Layout.{IsSteady}
-use Rattle.czi_format.specs.Live.{Live, segments, document}
+use Rattle.czi_format.specs.Live.{Live, segments}
 use Rattle.czi_format.specs.Same.{SameExtent, SameLive}
 use Rattle.czi_format.specs.Segment.{Segment, extent}
-use Rattle.czi_format.specs.Shows.{Reaches}
 use Rattle.czi_format.specs.Span.{end_of}
 use Rattle.czi_format.proofs.Local.{reaches_local, document_local}
 use Rattle.czi_rig.specs.Disk.{Covers, SameOutside}
 use Rattle.czi_machine.specs.Cover.{between, cover}
 use Rattle.czi_machine.specs.Holes.{holes, SameOutside as Agrees}
 use Rattle.czi_machine.specs.Laws.{Lies, LiesLoosely}
-use Rattle.czi_machine.specs.Sound.{IsTidy, IsSound}
+use Rattle.czi_machine.specs.Sound.{IsTidy}
 use Rattle.czi_machine.specs.State.{State, held}
 use Rattle.czi_machine.proofs.Clear.{HeaderAt, header_at_front}
 use Rattle.czi_machine.proofs.Cover.{between_in}
@@ -25,26 +22,31 @@ use Rattle.czi_engine.specs.Holes.{holes_of}
 use Rattle.czi_engine.specs.Stands.{StandsOn}
 use Rattle.czi_engine.proofs.Ranges.{covered, live_outside, front_outside}
 
+-- The same bytes outside the holes, in a list that is no shorter.
+pub record Has (a b : List ℕ) (s : State) : Type 0 where
+  pub long : length a ≤ length b
+  pub each : (k : ℕ) → k < length a → (Covers (holes_of s) k → ⊥) → get_or b k 0 ≡ get_or a k 0
+
 -- the same live segments
-same_live : (a b : List ℕ) (live : Live) (s : State) → LiesLoosely a live s → IsTidy s → SameOutside (Covers (holes_of s)) a b → SameLive a b live
-same_live a b live s lies is same =
+pub same_live : (a b : List ℕ) (live : Live) (s : State) → LiesLoosely a live s → IsTidy s → Has a b s → SameLive a b live
+same_live a b live s lies is has =
     let H : Segment = live.header.segment in
     let at : HeaderAt a H = header_at_front a live lies.reaches in
-    let front : (k : ℕ) → k < 32 + H.allocated → get_or a k 0 ≡ get_or b k 0 = λ k small. sym (same.each k (front_outside a live s k lies is small)) in
+    let front : (k : ℕ) → k < 32 + H.allocated → get_or a k 0 ≡ get_or b k 0 = λ k small. sym (has.each k (omega (arith, small, at.inside)) (front_outside a live s k lies is small)) in
     let extents : AllByRecursion (SameExtent a b) (segments live) =
     on_all (StandsLive a) (λ (x : Segment). (p : ℕ) → between x.at (end_of (extent x)) p ≤ cover (map extent (segments live)) p) (SameExtent a b)
     (λ x stands among. let inside = stands_inside a x.at x stands.stands in
-    same_bytes a b x.at (32 + x.allocated) (omega (arith, inside.1)) (omega (arith, inside.1, same.len))
-    (λ k from to. sym (same.each k (live_outside a live s k lies is (omega (arith, among k, between_in x.at (end_of (extent x)) k from (omega (arith, to)))))))) (segments live) (live_stands a live lies.reaches) (places_among (segments live)) in
+    same_bytes a b x.at (32 + x.allocated) (omega (arith, inside.1)) (omega (arith, inside.1, has.long))
+    (λ k from to. sym (has.each k (omega (arith, to, inside.1)) (live_outside a live s k lies is (omega (arith, among k, between_in x.at (end_of (extent x)) k from (omega (arith, to)))))))) (segments live) (live_stands a live lies.reaches) (places_among (segments live)) in
     record {
-      header = same_bytes a b 0 100 (omega (arith, at.large, at.inside)) (omega (arith, at.large, at.inside, same.len)) (λ k from to. front k (omega (arith, to, at.large)));
-      behind = same_bytes a b 104 (32 + H.allocated - 104) (omega (arith, at.large, at.inside)) (omega (arith, at.large, at.inside, same.len)) (λ k from to. front k (omega (arith, to, at.large)));
+      header = same_bytes a b 0 100 (omega (arith, at.large, at.inside)) (omega (arith, at.large, at.inside, has.long)) (λ k from to. front k (omega (arith, to, at.large)));
+      behind = same_bytes a b 104 (32 + H.allocated - 104) (omega (arith, at.large, at.inside)) (omega (arith, at.large, at.inside, has.long)) (λ k from to. front k (omega (arith, to, at.large)));
       reached = extents.1;
     }
 
 pub loosely_outside : (a b : List ℕ) (live : Live) (s : State) → LiesLoosely a live s → IsTidy s → SameOutside (Covers (holes_of s)) a b → LiesLoosely b live s
 loosely_outside a b live s lies is same =
-    let live_same : SameLive a b live = same_live a b live s lies is same in
+    let live_same : SameLive a b live = same_live a b live s lies is (record { long = omega (arith, same.len); each = λ k small out. same.each k out }) in
     record {
       reaches = reaches_local a b live live_same lies.reaches;
       document = lies.document ∙ document_local a b live live_same;

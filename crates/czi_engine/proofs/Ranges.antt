@@ -1,5 +1,5 @@
 -- Holes as spans and as ranges.
-use Rattle.std.proofs.Common.{◌≡◌, ◌⊎◌, ℕ, ◌+◌, ◌≤◌, ◌<◌, List, [], ◌∷◌, map, ap, arith, inl, inr, ⊎_elim}
+use Rattle.std.proofs.Common.{ℕ, ◌+◌, ◌≤◌, ◌<◌, List, [], ◌∷◌, map, ap, arith, inl, inr, ⊎_elim}
 use Rattle.std.proofs.lemmas.Bool.{cases_lt}
 use Rattle.czi_format.specs.Live.{Live, segments}
 use Rattle.czi_format.specs.Segment.{Segment, extent}
@@ -8,11 +8,11 @@ use Rattle.czi_rig.specs.Disk.{Covers}
 use Rattle.czi_machine.specs.Cover.{between, cover}
 use Rattle.czi_machine.specs.Holes.{interior, holes}
 use Rattle.czi_machine.specs.Laws.{LiesLoosely}
-use Rattle.czi_machine.specs.Sound.{IsTidy, live_spans}
+use Rattle.czi_machine.specs.Sound.{IsTidy}
 use Rattle.czi_machine.specs.State.{State, held}
 use Rattle.czi_machine.proofs.AnyCommand.{all_spans}
 use Rattle.czi_machine.proofs.Clear.{HeaderAt, header_at_front}
-use Rattle.czi_machine.proofs.Cover.{between_in, between_low, between_high, side, low, here, high}
+use Rattle.czi_machine.proofs.Cover.{between_in, side, low, here, high}
 use Rattle.czi_machine.proofs.Placing.{without_fewer}
 use Rattle.czi_engine.specs.Holes.{ranges_of, holes_of, AreHigh}
 use Rattle.czi_engine.specs.Stands.{StandsOn}

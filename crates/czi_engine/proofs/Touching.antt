@@ -1,15 +1,14 @@
 -- No write touches an item that stays.
-use Rattle.std.proofs.Common.{◌≡◌, ◌⊎◌, ℕ, zero, suc, ◌+◌, ◌-◌, ◌≤◌, ◌<◌, List, [], ◌∷◌, ◌++◌, map, take, drop, length, get_or, Option, Some, None, Ok, refl, ap, sym, ◌∙◌, arith, inl, inr, ⊎_elim, subst}
+use Rattle.std.proofs.Common.{◌≡◌, ℕ, zero, suc, ◌+◌, ◌-◌, ◌≤◌, ◌<◌, List, [], ◌∷◌, map, length, get_or, Some, None, refl, ap, sym, ◌∙◌, arith, inl, inr, ⊎_elim, subst}
 use Rattle.std.specs.Prelude.{slice_get}
 use Rattle.std.specs.Option.{unwrap_or}
 use Rattle.std.proofs.lemmas.Bool.{cases_lt}
 use Rattle.czi_format.specs.Bytes.{bytes_at}
-use Rattle.czi_format.specs.Document.{Document}
 use Rattle.czi_format.specs.Entry.{Dim}
 use Rattle.czi_format.specs.Layout.{Layout, HasLayout}
 use Rattle.czi_format.specs.Live.{Live, Directory, Tile, segments, reached}
 use Rattle.czi_format.specs.Segment.{Segment, extent}
-use Rattle.czi_format.specs.Span.{Span, end_of, round32}
+use Rattle.czi_format.specs.Span.{Span, end_of}
 use Rattle.czi_format.specs.Space.{use_span, place_for}
 use Rattle.czi_format.proofs.Unique.{reaches_unique}
 use Rattle.czi_links.specs.Reading.{Reading, Void, Holds, OfVersion, BadAt}
@@ -17,25 +16,24 @@ use Rattle.czi_journal.specs.Journals.{slot_of}
 use Rattle.czi_machine.specs.Change.{Act, brought, out}
 use Rattle.czi_machine.specs.Cover.{between, cover}
 use Rattle.czi_machine.specs.Edit.{remove}
-use Rattle.czi_machine.specs.Headline.{NoWriteTouches}
 use Rattle.czi_machine.specs.Laws.{LiesLoosely, Leads}
-use Rattle.czi_machine.specs.Places.{live_places, space_of, directory_need}
+use Rattle.czi_machine.specs.Places.{live_places, space_of}
 use Rattle.czi_machine.specs.Removal.{with_directory}
 use Rattle.czi_machine.specs.Sound.{IsTidy, live_spans}
-use Rattle.czi_machine.specs.State.{State, spans_of, item_places, item_spans, items_of, held}
+use Rattle.czi_machine.specs.State.{State, spans_of, item_places, items_of, held}
 use Rattle.czi_machine.specs.Turn.{Turn, turned, new_segments, SpansAt}
 use Rattle.czi_machine.specs.Writes.{AreOnce, WritesIn, marked}
 use Rattle.czi_machine.specs.Written.{Piece, byte_of, Wrote}
 use Rattle.czi_machine.proofs.AnyCommand.{all_spans, once_after}
-use Rattle.czi_machine.proofs.Clear.{HeaderAt, header_at_front, not_written, turned_cover}
-use Rattle.czi_machine.proofs.Cover.{between_in, between_low, between_high}
+use Rattle.czi_machine.proofs.Clear.{HeaderAt, header_at_front, not_written}
+use Rattle.czi_machine.proofs.Cover.{between_in, between_high}
 use Rattle.czi_machine.proofs.Fitting.{Uses, placed}
 use Rattle.czi_machine.proofs.Led.{led, edits_lead}
 use Rattle.czi_machine.proofs.Opened.{layout_spans}
 use Rattle.czi_machine.proofs.Outside.{same_bytes}
 use Rattle.czi_machine.proofs.Placing.{cover-live_places, is_space, without_fewer}
 use Rattle.czi_machine.proofs.Removal.{brought_out}
-use Rattle.czi_vault.specs.Recovered.{Recovered, StandsFor, Stands, StandsOr}
+use Rattle.czi_vault.specs.Recovered.{Recovered, StandsFor, Stands}
 use Rattle.czi_engine.specs.Commit.{Step, made_of, pieces_in, IsStep, IsPlanned, IsRemoval, removed}
 use Rattle.czi_engine.specs.Holes.{AreHigh, view_of}
 use Rattle.czi_engine.specs.Moment.{AlikeInItems, BringsApart}
@@ -75,7 +73,7 @@ live_inside bytes live s k lies is there = elim (cases_lt k (length bytes)) [
 ]
 
 -- the same bytes in a span, one by one
-same_span_bytes : (a b : List ℕ) (x : Span) → ((k : ℕ) → x.at ≤ k → k < end_of x → (k < length a) × (k < length b) × (get_or a k 0 ≡ get_or b k 0)) → bytes_at a x.at x.len ≡ bytes_at b x.at x.len
+pub same_span_bytes : (a b : List ℕ) (x : Span) → ((k : ℕ) → x.at ≤ k → k < end_of x → (k < length a) × (k < length b) × (get_or a k 0 ≡ get_or b k 0)) → bytes_at a x.at x.len ≡ bytes_at b x.at x.len
 unfolding bytes_at
 same_span_bytes a b x each = elim (cases_lt 0 x.len) [
   | inr none ↦ let e : x.len ≡ 0 = omega (arith, none) in rw e

@@ -1,11 +1,10 @@
 -- Where live segments have their extents and the walk stands on all of them, they lie at their places.
-use Rattle.std.proofs.Common.{◌≡◌, ℕ, List, [], ◌∷◌, ◌++◌, map, length, true, Option, Some, None, option_map, option_to_list, refl, ap, sym, ◌∙◌, arith}
+use Rattle.std.proofs.Common.{◌≡◌, List, [], ◌∷◌, ◌++◌, map, length, Option, Some, None, option_map, option_to_list, refl, ap, sym, ◌∙◌}
 use Rattle.std.specs.Prelude.{IsTrue}
 use Rattle.std.specs.List.{AllByRecursion}
 use Rattle.czi_format.specs.Layout.{Place, Layout}
 use Rattle.czi_format.specs.Live.{Live, Directory, Tile, AttItem, MetaItem}
 use Rattle.czi_format.specs.Segment.{Segment, extent}
-use Rattle.czi_format.specs.Span.{Span}
 use Rattle.czi_format.proofs.Local.{All-append}
 use Rattle.czi_machine.specs.Places.{live_places}
 use Rattle.czi_machine.specs.State.{State}

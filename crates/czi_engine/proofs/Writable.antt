@@ -1,12 +1,12 @@
 -- What is free space is free in the view of a state.
-use Rattle.std.proofs.Common.{◌≡◌, ◌⊎◌, ℕ, ◌+◌, ◌-◌, ◌≤◌, ◌<◌, max, min, List, [], ◌∷◌, ◌++◌, map, length, Bool, true, false, nat_le, nat_lt, Option, Some, None, Result, Ok, refl, ap, sym, ◌∙◌, arith, inl, inr, ⊎_elim, subst, ◌^◌}
+use Rattle.std.proofs.Common.{◌≡◌, ◌⊎◌, ℕ, ◌+◌, ◌-◌, ◌≤◌, ◌<◌, max, min, List, [], ◌∷◌, ◌++◌, map, length, Bool, true, nat_le, nat_lt, Option, Some, None, Result, Ok, refl, ap, sym, ◌∙◌, arith, inl, inr, ⊎_elim, subst, ◌^◌}
 use Rattle.std.specs.List.{AllByRecursion, find, flat_map}
 use Rattle.std.proofs.lemmas.Bool.{cases_lt, cases_Bool, leb-true, ltb-true}
 use Rattle.czi_format.specs.Live.{Live}
 use Rattle.czi_format.specs.Space.{Full, from_to, left_of, without, free_runs, place_for, place_in, place_past}
 use Rattle.czi_format.specs.Span.{Span, end_of, meets, round32}
 use Rattle.czi_links.specs.Record.{Bytes}
-use Rattle.czi_machine.specs.Cover.{between, cover, LiesInOne}
+use Rattle.czi_machine.specs.Cover.{cover, LiesInOne}
 use Rattle.czi_machine.specs.Holes.{interior, holes}
 use Rattle.czi_machine.specs.Places.{space_of}
 use Rattle.czi_machine.specs.Sound.{IsTidy, usable_held}
@@ -14,7 +14,7 @@ use Rattle.czi_machine.specs.State.{State, held}
 use Rattle.czi_machine.specs.Written.{IsZeros}
 use Rattle.czi_machine.proofs.Cover.{between_in, without_in, without_out}
 use Rattle.czi_machine.proofs.Placing.{held_parts, in_one_covers}
-use Rattle.czi_machine.proofs.Tiled.{All-both, All-weaken}
+use Rattle.czi_machine.proofs.Tiled.{All-weaken}
 use Rattle.czi_vault.specs.Recovered.{IsFree}
 use Rattle.czi_engine.specs.Commit.{piece_of}
 use Rattle.czi_engine.specs.Free.{LiesFree, HoldsUsable, AreFree}

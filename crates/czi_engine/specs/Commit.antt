@@ -1,5 +1,5 @@
 -- The writes and the commit of a command.
-use Rattle.std.specs.Prelude.{◌≡◌, ◌+◌, ◌≤◌, ℕ, ⊤, max, List, [], ◌∷◌, ◌++◌, map, length, Ok}
+use Rattle.std.specs.Prelude.{◌≡◌, ◌≤◌, ℕ, ⊤, max, List, [], ◌∷◌, ◌++◌, map, length, Ok}
 use Rattle.std.specs.List.{AllByRecursion}
 use Rattle.czi_format.specs.Entry.{Dim}
 use Rattle.czi_format.specs.Live.{Live, Directory}

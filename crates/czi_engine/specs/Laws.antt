@@ -1,7 +1,7 @@
 -- The laws of what an image and a journal open as, as statements.
 use Rattle.std.specs.List.{AllByRecursion}
-use Rattle.std.specs.Prelude.{◌≡◌, ◌+◌, ◌-◌, ◌≤◌, ℕ, pos, List, [], length, slice_index, Ok}
-use Rattle.czi_format.specs.Bytes.{IsBytes}
+use Rattle.std.specs.Prelude.{◌≡◌, ◌+◌, ◌-◌, ◌⊎◌, ℕ, pos, List, [], ◌++◌, length, slice_index, Ok}
+use Rattle.czi_format.specs.Bytes.{IsBytes, bytes_at}
 use Rattle.czi_format.specs.Entry.{Dim}
 use Rattle.czi_format.specs.Layout.{HasLayout}
 use Rattle.czi_format.specs.Live.{Live, Directory, document, update_pending}
@@ -14,16 +14,20 @@ use Rattle.czi_machine.specs.Edit.{remove}
 use Rattle.czi_machine.specs.Machine.{after_edit}
 use Rattle.czi_machine.specs.Places.{space_of}
 use Rattle.czi_machine.specs.Removal.{with_directory}
-use Rattle.czi_machine.specs.State.{State}
+use Rattle.czi_machine.specs.State.{State, held}
 use Rattle.czi_machine.specs.Turn.{Turn, turned}
 use Rattle.czi_machine.specs.Written.{Wrote, IsZeros}
 use Rattle.czi_rig.specs.Disk.{Covers, SameOutside}
-use Rattle.czi_vault.specs.Recovered.{Recovered, Stands, StandsOr, IsFree}
-use Rattle.czi_engine.specs.Commit.{piece_of, Step, made_of, pieces_in, IsStep, IsPlanned, IsRemoval, removed}
+use Rattle.czi_rig.specs.Moments.{Devices}
+use Rattle.czi_vault.specs.Alone.{Alone, IsPending, HasBytesBut100}
+use Rattle.czi_vault.specs.Puts.{ranges}
+use Rattle.czi_vault.specs.Recovered.{Recovered, Stands, StandsNow, StandsOr, IsFree}
+use Rattle.czi_engine.specs.Commit.{piece_of, BeginWithin, Step, written, made_of, pieces_in, IsStep, IsPlanned, IsRemoval, removed}
 use Rattle.czi_engine.specs.Free.{LiesFree, HoldsUsable, AreFree}
 use Rattle.czi_engine.specs.Holes.{holes_of, AreHigh, view_of}
 use Rattle.czi_engine.specs.Moment.{AlikeInItems, BringsApart}
-use Rattle.czi_engine.specs.Stands.{OpensAs, EitherSide, StandsOn}
+use Rattle.czi_engine.specs.Rests.{RestsOn}
+use Rattle.czi_engine.specs.Stands.{Opens, OpensAs, ShowsWhole, EitherSide, StandsOn}
 
 -- the holes of a state in bytes are high
 abbrev pub HolesAreHigh : Type 0
@@ -40,6 +44,23 @@ RecoveredOpens = (start bytes image journal : List ℕ) (live : Live) (s : State
 -- and so does what stands for them outside the holes
 abbrev pub ViewOpens : Type 0
 ViewOpens = (start bytes image journal : List ℕ) (live : Live) (s : State) (high : AreHigh s) → StandsOn start bytes live s → Stands (view_of bytes s high) image journal → OpensAs start image journal s
+
+-- a state's document is what is opened
+abbrev pub DocumentOpens : Type 0
+DocumentOpens = (start image journal : List ℕ) (s : State) → OpensAs start image journal s → Opens image journal s.document
+
+-- files that rest on the bytes of a state stand for its view
+abbrev pub RestsStands : Type 0
+RestsStands = (all : Devices) (bytes : List ℕ) (s : State) (high : AreHigh s) → RestsOn all bytes → StandsNow (view_of bytes s high) all
+
+-- what agrees with the bytes outside the holes has the same bytes of held segments past their headers
+abbrev pub HeldStays : Type 0
+HeldStays = (start bytes other : List ℕ) (live : Live) (s : State) → StandsOn start bytes live s → SameOutside (Covers (holes_of s)) bytes other
+    → AllByRecursion (λ (h : Span). bytes_at other (h.at + 32) (h.len - 32) ≡ bytes_at bytes (h.at + 32) (h.len - 32)) (held s)
+
+-- an image that has the bytes outside the holes, read alone, shows the document of the state, or it says that it waits
+abbrev pub AloneShows : Type 0
+AloneShows = (start bytes image : List ℕ) (live : Live) (s : State) (high : AreHigh s) → StandsOn start bytes live s → Alone (view_of bytes s high) image → IsPending image ⊎ ShowsWhole image s.document
 
 -- what is opened stands on the state of its layout, without formers
 abbrev pub OpenedStands : Type 0
@@ -91,3 +112,16 @@ CommitTouches = (start bytes : List ℕ) (live : Live) (s s' : State) (t : Turn)
 abbrev pub RemovalTouches : Type 0
 RemovalTouches = (start bytes : List ℕ) (live : Live) (s : State) (dims : List Dim) (i : ℕ) (d : Directory) (c : Step) (high : AreHigh s) → StandsOn start bytes live s → IsRemoval live s dims i d c → IsStep bytes c
     → AlikeInItems (view_of bytes s high) (made_of c bytes)
+
+-- free writes leave the bytes of the view
+abbrev pub WrittenHasBytes : Type 0
+WrittenHasBytes = (bytes : List ℕ) (s : State) (high : AreHigh s) (c : Step) → BeginWithin (length bytes) (c.zeros ++ c.writes) → AreFree (view_of bytes s high) (c.zeros ++ c.writes)
+    → HasBytesBut100 (view_of bytes s high) (written c bytes)
+
+-- no link of a planned command is written over the first byte of UpdatePending
+abbrev pub CommitLeaves100 : Type 0
+CommitLeaves100 = (start bytes : List ℕ) (live : Live) (s s' : State) (t : Turn) (c : Step) → StandsOn start bytes live s → IsPlanned bytes live s s' t c → Covers (ranges c.commits.links) 100 → ⊥
+
+abbrev pub RemovalLeaves100 : Type 0
+RemovalLeaves100 = (start bytes : List ℕ) (live : Live) (s : State) (dims : List Dim) (i : ℕ) (d : Directory) (c : Step) → StandsOn start bytes live s → IsRemoval live s dims i d c → IsStep bytes c
+    → Covers (ranges c.commits.links) 100 → ⊥

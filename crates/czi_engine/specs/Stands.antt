@@ -27,6 +27,11 @@ pub record OpensAs (start image journal : List ℕ) (s : State) : Type 0 where
   pub lies : LiesAs start bytes s.layout
   pub steady : IsSteady start → IsSteady bytes
 
+-- read without a journal, an image shows a document and is whole
+pub record ShowsWhole (image : List ℕ) (d : Document) : Type 0 where
+  pub shows : Shows image d
+  pub whole : update_pending image ≡ pos 0
+
 -- they open as one of two states
 abbrev pub EitherSide : List ℕ → List ℕ → List ℕ → State → State → Type 0
 EitherSide start image journal s s' = OpensAs start image journal s ⊎ OpensAs start image journal s'

@@ -2,7 +2,7 @@
 //! laws of one commit.
 #![tactic(auto)]
 
-ghost use Rattle.czi_engine.specs.Laws.{HolesAreHigh, StandsOutside, RecoveredOpens, ViewOpens, OpenedStands, MadeWrote, CommitStands, CommitOpens, RemovalStands, RemovalOpens, FreeInView, ZerosInView, PlaceInView, CommitTouches, RemovalTouches};
+ghost use Rattle.czi_engine.specs.Laws.{DocumentOpens, RestsStands, HeldStays, AloneShows, WrittenHasBytes, CommitLeaves100, RemovalLeaves100, HolesAreHigh, StandsOutside, RecoveredOpens, ViewOpens, OpenedStands, MadeWrote, CommitStands, CommitOpens, RemovalStands, RemovalOpens, FreeInView, ZerosInView, PlaceInView, CommitTouches, RemovalTouches};
 
 /// What stands for the bytes of a state, outside the holes of the state, opens as the state.
 pub fn views_open()
@@ -10,6 +10,9 @@ pub fn views_open()
     ensures outside { StandsOutside }
     ensures recovered { RecoveredOpens }
     ensures opens { ViewOpens }
+    ensures document { DocumentOpens }
+    ensures rests { RestsStands }
+    ensures held { HeldStays }
 {}
 
 /// An image that shows a document, with no update pending, stands on the state of its layout.
@@ -48,4 +51,13 @@ pub fn writes_are_free()
 pub fn no_write_touches()
     ensures commit { CommitTouches }
     ensures removal { RemovalTouches }
+{}
+
+/// Read without the journal, an image that a crash leaves shows a document of one side, or it says
+/// that it waits for the journal.
+pub fn images_alone()
+    ensures shows { AloneShows }
+    ensures written { WrittenHasBytes }
+    ensures commit { CommitLeaves100 }
+    ensures removal { RemovalLeaves100 }
 {}

@@ -1,3 +1,4 @@
+use Rattle.czi_engine.proofs.Held.{document_opens, rests_stands, held_stays}
 use Rattle.czi_engine.proofs.Opening.{recovered_opens, view_opens}
 use Rattle.czi_engine.proofs.Outside.{stands_outside}
 use Rattle.czi_engine.proofs.Ranges.{holes_high}
@@ -14,3 +15,12 @@ returns-clause-recovered c = recovered_opens
 
 pub returns-clause-opens : goal.returns-clause-opens
 returns-clause-opens c = view_opens
+
+pub returns-clause-document : goal.returns-clause-document
+returns-clause-document c = document_opens
+
+pub returns-clause-rests : goal.returns-clause-rests
+returns-clause-rests c = rests_stands
+
+pub returns-clause-held : goal.returns-clause-held
+returns-clause-held c = held_stays
