@@ -1,11 +1,11 @@
 -- Bytes of held segments are outside the holes.
-use Rattle.std.proofs.Common.{◌≡◌, ℕ, ◌+◌, ◌-◌, ◌≤◌, ◌<◌, List, map, length, refl, arith, inl, inr}
+use Rattle.std.proofs.Common.{◌≡◌, ℕ, ◌+◌, ◌-◌, ◌≤◌, ◌<◌, List, map, length, refl, sym, arith, inl, inr, subst}
 use Rattle.std.specs.List.{AllByRecursion}
 use Rattle.std.proofs.lemmas.Bool.{cases_lt}
 use Rattle.czi_format.specs.Bytes.{bytes_at}
 use Rattle.czi_format.specs.Live.{Live}
 use Rattle.czi_format.specs.Span.{Span, end_of}
-use Rattle.czi_rig.specs.Disk.{Covers, SameOutside}
+use Rattle.czi_rig.specs.Disk.{Disk, Left, Covers, SameOutside, IsAtRest}
 use Rattle.czi_rig.specs.Moments.{Devices}
 use Rattle.czi_machine.specs.Cover.{between, cover}
 use Rattle.czi_machine.specs.Holes.{interior, holes}
@@ -14,7 +14,8 @@ use Rattle.czi_machine.specs.State.{State, held}
 use Rattle.czi_machine.proofs.Cover.{between_in, without_in}
 use Rattle.czi_machine.proofs.Placing.{covers_own, held_covered}
 use Rattle.czi_machine.proofs.Tiled.{All-weaken}
-use Rattle.czi_vault.specs.Recovered.{StandsNow}
+use Rattle.czi_rig.proofs.Files.{left_settled}
+use Rattle.czi_vault.specs.Recovered.{Recovered, StandsNow}
 use Rattle.czi_engine.specs.Holes.{holes_of, AreHigh, view_of}
 use Rattle.czi_engine.specs.Rests.{RestsOn}
 use Rattle.czi_engine.specs.Stands.{Opens, OpensAs, StandsOn}
@@ -47,4 +48,13 @@ rests_stands all bytes s high rests image journal said leaves = record {
   bytes = bytes;
   recovered = rests.recovers image journal said leaves;
   agrees = record { len = refl; each = λ k out. refl };
+}
+
+pub itself_rests : (all : Devices) → IsAtRest all.image → IsAtRest all.journal → Recovered all.image.seen all.journal.seen all.image.seen → RestsOn all all.image.seen
+itself_rests all image journal is = record {
+  image = image;
+  recovers = λ i j said leaves.
+      let one : i ≡ all.image.seen = left_settled all.image.seen i (subst (λ (d : Disk). Left d.durable i) image leaves.image_is) in
+      let two : j ≡ all.journal.seen = left_settled all.journal.seen j (subst (λ (d : Disk). Left d.durable j) journal leaves.journal_is) in
+      subst (λ (x : List ℕ). Recovered x j all.image.seen) (sym one) (subst (λ (x : List ℕ). Recovered all.image.seen x all.image.seen) (sym two) is);
 }

@@ -17,7 +17,7 @@ use Rattle.czi_machine.specs.Removal.{with_directory}
 use Rattle.czi_machine.specs.State.{State, held}
 use Rattle.czi_machine.specs.Turn.{Turn, turned}
 use Rattle.czi_machine.specs.Written.{Wrote, IsZeros}
-use Rattle.czi_rig.specs.Disk.{Covers, SameOutside}
+use Rattle.czi_rig.specs.Disk.{Covers, SameOutside, IsAtRest}
 use Rattle.czi_rig.specs.Moments.{Devices}
 use Rattle.czi_vault.specs.Alone.{Alone, IsPending, HasBytesBut100}
 use Rattle.czi_vault.specs.Puts.{ranges}
@@ -52,6 +52,10 @@ DocumentOpens = (start image journal : List ℕ) (s : State) → OpensAs start i
 -- files that rest on the bytes of a state stand for its view
 abbrev pub RestsStands : Type 0
 RestsStands = (all : Devices) (bytes : List ℕ) (s : State) (high : AreHigh s) → RestsOn all bytes → StandsNow (view_of bytes s high) all
+
+-- files that were synced, of which the image is what both stand for, rest on it
+abbrev pub ItselfRests : Type 0
+ItselfRests = (all : Devices) → IsAtRest all.image → IsAtRest all.journal → Recovered all.image.seen all.journal.seen all.image.seen → RestsOn all all.image.seen
 
 -- what agrees with the bytes outside the holes has the same bytes of held segments past their headers
 abbrev pub HeldStays : Type 0

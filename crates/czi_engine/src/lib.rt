@@ -2,7 +2,7 @@
 //! laws of one commit.
 #![tactic(auto)]
 
-ghost use Rattle.czi_engine.specs.Laws.{DocumentOpens, RestsStands, HeldStays, AloneShows, WrittenHasBytes, CommitLeaves100, RemovalLeaves100, HolesAreHigh, StandsOutside, RecoveredOpens, ViewOpens, OpenedStands, MadeWrote, CommitStands, CommitOpens, RemovalStands, RemovalOpens, FreeInView, ZerosInView, PlaceInView, CommitTouches, RemovalTouches};
+ghost use Rattle.czi_engine.specs.Laws.{DocumentOpens, ItselfRests, RestsStands, HeldStays, AloneShows, WrittenHasBytes, CommitLeaves100, RemovalLeaves100, HolesAreHigh, StandsOutside, RecoveredOpens, ViewOpens, OpenedStands, MadeWrote, CommitStands, CommitOpens, RemovalStands, RemovalOpens, FreeInView, ZerosInView, PlaceInView, CommitTouches, RemovalTouches};
 
 /// What stands for the bytes of a state, outside the holes of the state, opens as the state.
 pub fn views_open()
@@ -11,6 +11,7 @@ pub fn views_open()
     ensures recovered { RecoveredOpens }
     ensures opens { ViewOpens }
     ensures document { DocumentOpens }
+    ensures itself { ItselfRests }
     ensures rests { RestsStands }
     ensures held { HeldStays }
 {}

@@ -1,4 +1,4 @@
-use Rattle.czi_engine.proofs.Held.{document_opens, rests_stands, held_stays}
+use Rattle.czi_engine.proofs.Held.{document_opens, itself_rests, rests_stands, held_stays}
 use Rattle.czi_engine.proofs.Opening.{recovered_opens, view_opens}
 use Rattle.czi_engine.proofs.Outside.{stands_outside}
 use Rattle.czi_engine.proofs.Ranges.{holes_high}
@@ -24,3 +24,6 @@ returns-clause-rests c = rests_stands
 
 pub returns-clause-held : goal.returns-clause-held
 returns-clause-held c = held_stays
+
+pub returns-clause-itself : goal.returns-clause-itself
+returns-clause-itself c = itself_rests
