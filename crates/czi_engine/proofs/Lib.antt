@@ -1,0 +1,11 @@
+mod Ranges
+mod Writable
+mod Outside
+mod Opening
+mod Newly
+mod Made
+mod Walked
+mod Committed
+mod Touching
+mod Held
+mod Reading
