@@ -1,0 +1,4 @@
+pub mod Answers
+pub mod Course
+pub mod Opens
+pub mod Steps

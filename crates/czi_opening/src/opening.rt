@@ -1,0 +1,76 @@
+//! Opening an image beside its journal.
+
+ghost use Rattle.std.specs.Prelude.{◌≡◌, IfOk, IfErr};
+ghost use Rattle.std.specs.Option.{ForSome};
+ghost use Rattle.czi_rig.specs.Disk.{IsAtRest};
+ghost use Rattle.czi_rig.specs.State.{known, seen_of};
+ghost use Rattle.czi_rig.specs.Passes.{GoesOn};
+ghost use Rattle.czi_rig.specs.Moments.{devices, Throughout};
+ghost use Rattle.czi_opening.specs.Answers.{IsCaused, IsOpened, Tells};
+ghost use Rattle.czi_opening.specs.Course.{OpensFrom, Stays};
+
+use crate::error::OpenError;
+use crate::steps::{read_image, restore, sync_both};
+use czi_image::Index;
+use czi_journal::Journal;
+use czi_links::Links;
+use czi_rig::{File, Rig};
+use std::alloc::Global;
+
+/// What an opening answers.
+#[derive(Drop)]
+pub struct Opened {
+    /// What the image holds.
+    pub index: Index,
+    /// Where the journal stands. It is armed exactly where it counted.
+    pub journal: Journal,
+    /// No links. Their memory may be used again.
+    pub links: Links,
+}
+
+/// Opens an image beside its journal: syncs both files, makes the image the recovered one where the journal
+/// counts, and reads its index. The journal isn't written.
+///
+/// # Errors
+///
+/// After one of the first four nothing was written, and both files are synced. After `Refused` the image is the
+/// recovered one. After the others each pair of files that a crash leaves stands for what they stood for.
+pub fn open<R: Rig>(alloc: Global, rig: &mut R) -> Result<Opened, OpenError>
+    ensures opened { IfOk result (λ o. ForSome (seen_of (R.state rig.old) File.Image) (λ image. ForSome (seen_of (R.state rig.old) File.Journal) (λ journal.
+        IsOpened image journal (R.state rig.new) o))) }
+    ensures refused { IfErr result (λ error. ForSome (seen_of (R.state rig.old) File.Image) (λ image. ForSome (seen_of (R.state rig.old) File.Journal) (λ journal.
+        Tells image journal (R.state rig.new) error))) }
+    // Until both files are synced nothing is left that the start couldn't leave. From then on each pair stands for what the start did.
+    ensures moments { ForSome (devices (R.state rig.old)) (λ all. OpensFrom R.Rig rig.old rig.new (Stays all) result) }
+    ensures said { (R.state rig.new).said ≡ (R.state rig.old).said }
+    ensures goes_on { GoesOn (R.state rig.old) (R.state rig.new) }
+    ensures cause { IfErr result (IsCaused (R.state rig.old) (R.state rig.new)) }
+{
+    sync_both(rig)?;
+    open_synced(alloc, rig)
+}
+
+/// The same of two files that are synced.
+fn open_synced<R: Rig>(alloc: Global, rig: &mut R) -> Result<Opened, OpenError>
+    requires image { ForSome (known (R.state rig.old) File.Image) IsAtRest }
+    requires journal { ForSome (known (R.state rig.old) File.Journal) IsAtRest }
+
+    ensures opened { IfOk result (λ o. ForSome (seen_of (R.state rig.old) File.Image) (λ image. ForSome (seen_of (R.state rig.old) File.Journal) (λ journal.
+        IsOpened image journal (R.state rig.new) o))) }
+    ensures refused { IfErr result (λ error. ForSome (seen_of (R.state rig.old) File.Image) (λ image. ForSome (seen_of (R.state rig.old) File.Journal) (λ journal.
+        Tells image journal (R.state rig.new) error))) }
+    ensures moments { ForSome (devices (R.state rig.old)) (λ all. Throughout R.Rig rig.old rig.new (Stays all)) }
+    ensures said { (R.state rig.new).said ≡ (R.state rig.old).said }
+    ensures goes_on { GoesOn (R.state rig.old) (R.state rig.new) }
+    ensures cause { IfErr result (IsCaused (R.state rig.old) (R.state rig.new)) }
+{
+    let mut links = Links::new(alloc);
+    let journal = restore(alloc, rig, &mut links)?;
+    links.clear();
+    let index = read_image(alloc, rig)?;
+    Ok(Opened {
+        index,
+        journal,
+        links,
+    })
+}
