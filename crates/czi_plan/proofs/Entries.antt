@@ -1,0 +1,94 @@
+-- Entries that are written one behind another.
+use Rattle.std.proofs.Common.{◌≡◌, ℕ, zero, suc, ◌+◌, ◌-◌, ◌<◌, ◌≤◌, pos, List, [], ◌∷◌, ◌++◌, map, take, drop, get_or, length, sum, replicate, refl, ap, sym, ◌∙◌, arith, append-nil, length-append}
+use Rattle.std.specs.List.{flat_map}
+use Rattle.std.proofs.Math.Seq.{take-append_seam, drop-append_seam}
+use Rattle.std.proofs.lemmas.List.Sums.{sum_by-append, sum_by-cons}
+use Rattle.std.proofs.lemmas.List.{drop-drop, drop-replicate, length-replicate, length-take-le}
+use Rattle.czi_format.specs.Bytes.{i32_bytes, put_at}
+use Rattle.czi_format.specs.Contents.{directory_head}
+use Rattle.czi_format.specs.Entry.{Entry, entry_len, entry_bytes}
+use Rattle.czi_image.specs.View.{tile_of}
+use Rattle.czi_image.specs.declared.types.Tile.{Tile}
+use Rattle.czi_machine.specs.Data.{directory_data}
+use Rattle.czi_plan.specs.Directory.{entries_of, directory_size, data_in}
+use Rattle.czi_plan.proofs.Lists.{drop_here, take_here, assoc, map_append, flat_append, take_end, drop_end}
+
+pub entries_here : (tiles : List Tile) (i : ℕ) (t : Tile) → i < length tiles → t ≡ get_or tiles i t → entries_of (drop i tiles) ≡ entries_of (t ∷ drop (i + 1) tiles)
+entries_here tiles i t h e = ap entries_of (drop_here tiles i t h e)
+
+pub sum_here : (tiles : List Tile) (i : ℕ) (t : Tile) → i < length tiles → t ≡ get_or tiles i t
+    → sum (map entry_len (entries_of (drop i tiles))) ≡ entry_len (tile_of t).entry + sum (map entry_len (entries_of (drop (i + 1) tiles)))
+sum_here tiles i t h e =
+    ap (λ (es : List Entry). sum (map entry_len es)) (entries_here tiles i t h e) ∙ sum_by-cons (λ n. n) (entry_len (tile_of t).entry) (map entry_len (entries_of (drop (i + 1) tiles)))
+
+pub bytes_here : (tiles : List Tile) (i : ℕ) (t : Tile) → i < length tiles → t ≡ get_or tiles i t
+    → flat_map entry_bytes (entries_of (take (i + 1) tiles)) ≡ flat_map entry_bytes (entries_of (take i tiles)) ++ flat_map entry_bytes (entries_of (t ∷ []))
+bytes_here tiles i t h e =
+    ap (λ l. flat_map entry_bytes (entries_of l)) (take_here tiles i t h e)
+    ∙ (ap (flat_map entry_bytes) (map_append _ (take i tiles) (t ∷ [])) ∙ flat_append entry_bytes (entries_of (take i tiles)) (entries_of (t ∷ [])))
+
+behind : (n m : ℕ) (xs : List ℕ) → drop m (drop n xs) ≡ drop (n + m) xs
+behind n m xs = drop-drop m n xs
+
+-- bytes written over a list right behind those that were
+pub next_bytes : (front old out new : List ℕ) (end k : ℕ) → length front ≡ end → out ≡ front ++ drop end old → take end out ++ (new ++ drop (end + k) out) ≡ (front ++ new) ++ drop (end + k) old
+next_bytes front old out new end k long is =
+    let low : take end out ≡ front = ap (λ l. take end l) is ∙ (ap (λ n. take n (front ++ drop end old)) (sym long) ∙ take-append_seam front (drop end old)) in
+    let at_end : drop end out ≡ drop end old = ap (λ l. drop end l) is ∙ (ap (λ n. drop n (front ++ drop end old)) (sym long) ∙ drop-append_seam front (drop end old)) in
+    let high : drop (end + k) out ≡ drop (end + k) old = sym (behind end k out) ∙ (ap (drop k) at_end ∙ behind end k old) in
+    ap (λ l. l ++ (new ++ drop (end + k) out)) low ∙ (ap (λ l. front ++ (new ++ l)) high ∙ sym (assoc front new (drop (end + k) old)))
+
+-- one more entry was written
+pub entry_next : (tiles : List Tile) (i : ℕ) (t : Tile) (at end k : ℕ) (old out new : List ℕ) → i < length tiles → t ≡ get_or tiles i t → at ≤ length old
+    → at + length (flat_map entry_bytes (entries_of (take i tiles))) ≡ end → out ≡ take at old ++ (flat_map entry_bytes (entries_of (take i tiles)) ++ drop end old)
+    → new ≡ entry_bytes (tile_of t).entry → length new ≡ k
+    → (at + length (flat_map entry_bytes (entries_of (take (i + 1) tiles))) ≡ end + k)
+    × (take end out ++ (new ++ drop (end + k) out) ≡ take at old ++ (flat_map entry_bytes (entries_of (take (i + 1) tiles)) ++ drop (end + k) old))
+entry_next tiles i t at end k old out new h e low seam is own size =
+    let done : List ℕ = flat_map entry_bytes (entries_of (take i tiles)) in
+    let front : length (take at old ++ done) ≡ end = omega (arith, length-append (take at old) done, length-take-le at old low, seam) in
+    let one : flat_map entry_bytes (entries_of (t ∷ [])) ≡ new = append-nil (entry_bytes (tile_of t).entry) ∙ sym own in
+    let more : flat_map entry_bytes (entries_of (take (i + 1) tiles)) ≡ done ++ new = bytes_here tiles i t h e ∙ ap (λ l. done ++ l) one in (
+      omega (arith, ap length more, length-append done new, seam, size),
+      next_bytes (take at old ++ done) old out new end k front (is ∙ sym (assoc (take at old) done (drop end old)))
+          ∙ (ap (λ l. l ++ drop (end + k) old) (assoc (take at old) done new ∙ ap (λ l. take at old ++ l) (sym more)) ∙ assoc (take at old) (flat_map entry_bytes (entries_of (take (i + 1) tiles))) (drop (end + k) old)),
+    )
+
+-- the head and the entries, over zeros
+pub filled : (n : ℕ) (zeros head b1 o1 o2 : List ℕ) (es fs : List Entry) (s1 s2 : ℕ) → zeros ≡ replicate n 0 → head ≡ directory_head (length es + length fs) → length head ≡ 128
+    → b1 ≡ put_at zeros 0 head → o1 ≡ take 128 b1 ++ (flat_map entry_bytes es ++ drop (128 + s1) b1) → o2 ≡ take (128 + s1) o1 ++ (flat_map entry_bytes fs ++ drop (128 + s1 + s2) o1)
+    → length (flat_map entry_bytes es) ≡ s1 → s1 ≡ sum (map entry_len es) → s2 ≡ sum (map entry_len fs) → o2 ≡ data_in n (es ++ fs)
+filled n zeros head b1 o1 o2 es fs s1 s2 zeros_is head_is long b1_is o1_is o2_is len1 sum1 sum2 =
+    let F : List ℕ = flat_map entry_bytes es in
+    let G : List ℕ = flat_map entry_bytes fs in
+    let behind_head : 0 + length head ≡ 128 = omega (arith, long) in
+    let first : b1 ≡ head ++ drop 128 zeros = b1_is ∙ ap (λ k. take 0 zeros ++ (head ++ drop k zeros)) behind_head in
+    let second : o1 ≡ (head ++ F) ++ drop (128 + s1) zeros = o1_is ∙ next_bytes head zeros b1 F 128 s1 long first in
+    let third : o2 ≡ ((head ++ F) ++ G) ++ drop (128 + s1 + s2) zeros = o2_is ∙ next_bytes (head ++ F) zeros o1 G (128 + s1) s2 (omega (arith, length-append head F, long, len1)) second in
+    let rest : drop (128 + s1 + s2) zeros ≡ replicate (n - (128 + s1 + s2)) 0 = ap (λ l. drop (128 + s1 + s2) l) zeros_is ∙ drop-replicate (128 + s1 + s2) n 0 in
+    let size : directory_size (es ++ fs) ≡ 128 + s1 + s2 = omega (arith, sum_both es fs, sum1, sum2) in
+    let count : length (es ++ fs) ≡ length es + length fs = length-append es fs in
+    third ∙ (ap (λ l. ((head ++ F) ++ G) ++ l) (rest ∙ ap (λ k. replicate (n - k) 0) (sym size))
+    ∙ (assoc (head ++ F) G _ ∙ (assoc head F _ ∙ (ap (λ l. l ++ (F ++ (G ++ replicate (n - directory_size (es ++ fs)) 0))) (head_is ∙ ap directory_head (sym count))
+    ∙ (assoc (i32_bytes (pos (length (es ++ fs)))) (replicate 124 0) _
+    ∙ ap (λ l. i32_bytes (pos (length (es ++ fs))) ++ (replicate 124 0 ++ l)) (sym (assoc F G _) ∙ ap (λ l. l ++ replicate (n - directory_size (es ++ fs)) 0) (sym (flat_append entry_bytes es fs))))))))
+  where
+    sum_both : (xs ys : List Entry) → sum (map entry_len (xs ++ ys)) ≡ sum (map entry_len xs) + sum (map entry_len ys)
+    sum_both xs ys = ap sum (map_append entry_len xs ys) ∙ sum_by-append (λ n. n) (map entry_len xs) (map entry_len ys)
+
+-- a piece at the end of the bytes put was written over
+pub over_last : (old put new data' : List ℕ) (at n : ℕ) → put ≡ old ++ replicate n 0 → at ≡ length old → new ≡ data' → take at put ++ (new ++ drop (at + n) put) ≡ old ++ data'
+over_last old put new data' at n put_is at_is is =
+    let low : take at put ≡ old = ap (λ l. take at l) put_is ∙ (ap (λ k. take k (old ++ replicate n 0)) at_is ∙ take-append_seam old (replicate n 0)) in
+    let long : length put ≡ at + n = omega (arith, ap length put_is, length-append old (replicate n 0), length-replicate {A = ℕ} n 0, at_is) in
+    let high : drop (at + n) put ≡ [] = drop_end put (at + n) (omega (arith, long)) in
+    ap (λ l. l ++ (new ++ drop (at + n) put)) low ∙ (ap (λ l. old ++ (new ++ l)) high ∙ (ap (λ l. old ++ l) (append-nil new) ∙ ap (λ l. old ++ l) is))
+
+-- what stands in a list after a part of it was written over
+pub put_as : (end k n : ℕ) (out new : List ℕ) → n ≡ k → take end out ++ (new ++ drop n (drop end out)) ≡ take end out ++ (new ++ drop (end + k) out)
+put_as end k n out new e = ap (λ m. take end out ++ (new ++ drop m (drop end out))) e ∙ ap (λ l. take end out ++ (new ++ l)) (behind end k out)
+
+pub size_of_both : (es fs : List Entry) → directory_size (es ++ fs) ≡ 128 + sum (map entry_len es) + sum (map entry_len fs)
+size_of_both es fs =
+    let both : sum (map entry_len (es ++ fs)) ≡ sum (map entry_len es) + sum (map entry_len fs) = ap sum (map_append entry_len es fs) ∙ sum_by-append (λ n. n) (map entry_len es) (map entry_len fs) in
+    omega (arith, both)

@@ -1,0 +1,13 @@
+pub mod Lists
+pub mod Keys
+pub mod Entries
+pub mod Extents
+pub mod Links
+pub mod Fits
+pub mod Gone
+pub mod Order
+pub mod Parts
+pub mod Removed
+pub mod Placed
+pub mod Planned
+pub mod Whole

@@ -1,0 +1,9 @@
+pub mod Pieces
+pub mod Directory
+pub mod Conditions
+pub mod Search
+pub mod Around
+pub mod Removal
+pub mod Geometry
+pub mod Placing
+pub mod Steps

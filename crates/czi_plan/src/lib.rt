@@ -1,0 +1,16 @@
+//! The plan of an edit of a CZI image in place: which bytes to write where before the commit, which links the commit
+//! has, which spans are used and freed, and the new length. Nothing is written to a device here.
+#![tactic(auto)]
+
+mod directory;
+mod freeing;
+mod heads;
+mod placing;
+mod plan;
+mod removal;
+mod search;
+#[cfg(test)]
+mod tests;
+
+pub use plan::{EditPlan, PlanFault};
+pub use removal::plan_remove;

@@ -1,0 +1,74 @@
+//! A plan, and why there is none.
+
+ghost use Rattle.std.specs.Prelude.{◌≡◌};
+ghost use Rattle.czi_plan.specs.declared.plan.PlanFault.TheVariants.{Memory};
+
+use czi_links::Links;
+use czi_num::Span;
+use czi_region::Piece;
+use std::alloc::{AllocError, Global};
+
+/// The plan of an edit. Places, spans and lengths are in bytes.
+#[derive(Drop)]
+pub struct EditPlan {
+    /// What is written before the commit: pieces of the region, each with its place in the image.
+    pub writes: Vec<(u64, Piece)>,
+    /// What the commit puts into the image.
+    pub links: Links,
+    /// The spans of new segments.
+    pub used: Vec<Span>,
+    /// The spans that can be used again afterwards.
+    pub freed: Vec<Span>,
+    /// The image's length afterwards.
+    pub length: u64,
+}
+
+/// Why an edit has no plan.
+#[derive(Clone, Copy, Debug, PartialEq, Eq)]
+pub enum PlanFault {
+    /// A new segment has no place: past the length it would end above 2^40.
+    Full {
+        /// How many bytes the segment needs.
+        need: u64,
+        /// The image's length without it.
+        length: u64,
+    },
+    /// There was no memory for the plan.
+    Memory,
+}
+
+impl From<AllocError> for PlanFault {
+    ghost from_gives = { λ _ e. e ≡ Memory };
+
+    fn from(_error: AllocError) -> PlanFault {
+        PlanFault::Memory
+    }
+}
+
+impl EditPlan {
+    ghost use Rattle.czi_plan.specs.Conditions.{IsEmpty};
+
+    /// A plan without anything in it. It takes no memory.
+    pub fn new(alloc: Global) -> EditPlan
+        ensures { IsEmpty result }
+    {
+        EditPlan {
+            writes: Vec::new(alloc),
+            links: Links::new(alloc),
+            used: Vec::new(alloc),
+            freed: Vec::new(alloc),
+            length: 0,
+        }
+    }
+
+    /// Takes everything out of the plan. Its memory stays for the next one.
+    pub fn clear(&mut self)
+        ensures { IsEmpty self.new }
+    {
+        self.writes.clear();
+        self.links.clear();
+        self.used.clear();
+        self.freed.clear();
+        self.length = 0;
+    }
+}
