@@ -4,21 +4,20 @@ use Rattle.std.specs.Prelude.{option_map}
 use Rattle.std.specs.Option.{ForSome}
 use Rattle.czi_rig.specs.declared.file.File.{File}
 use Rattle.czi_rig.specs.declared.file.File.TheVariants.{Image, Journal}
-use Rattle.czi_rig.specs.Disk.{Disk, IsAtRest, at_rest}
+use Rattle.czi_rig.specs.Disk.{Disk, Everywhere, IsAtRest, at_rest}
 use Rattle.czi_rig.specs.State.{State, known, seen_of, SameAll, LeavesOther}
 use Rattle.czi_rig.specs.Moments.{Devices, devices, all_of}
-use Rattle.czi_rig.proofs.Known.{known_seen, known_said}
+use Rattle.czi_rig.proofs.Known.{came_from, known_seen, known_said}
+use Rattle.czi_rig.proofs.Files.{everywhere_at_rest}
 use Rattle.czi_links.specs.Record.{Record}
 use Rattle.czi_links.specs.Reading.{Reading, Void, Holds}
-use Rattle.czi_journal.specs.declared.journal.Journal.{Journal as JournalState}
 use Rattle.czi_journal.specs.declared.journal.Slot.{Slot}
-use Rattle.czi_journal.specs.declared.journal.Slot.TheVariants.{A}
-use Rattle.czi_journal.specs.Journals.{slot_of, CountsWith}
+use Rattle.czi_journal.specs.Journals.{slot_of, Counts, CountsWith}
 use Rattle.czi_vault.specs.Recovered.{StandsFor, Makes, applied}
 use Rattle.czi_opening.specs.declared.error.OpenError.{OpenError}
 use Rattle.czi_opening.specs.declared.error.OpenError.TheVariants.{JournalVersion, BadJournal, ImageShort, ForeignJournal, Refused, ImageDevice, JournalDevice, Memory}
-use Rattle.czi_opening.specs.Answers.{AreSynced, IsJournal, StandsSo, Tells}
-use Rattle.czi_opening.specs.Steps.{CanBeOf, IsRestored, RefusesImage}
+use Rattle.czi_opening.specs.Answers.{AreRecovered, AreSynced, StandsSo, Tells}
+use Rattle.czi_opening.specs.Steps.{CanBeOf, RefusesImage}
 use Rattle.czi_opening.proofs.Standing.{rest_known}
 
 -- after calls that change nothing
@@ -39,23 +38,18 @@ module _ (s t : State) (x y : List ℕ) (image : ForSome (known s Image) IsAtRes
   first_synced same = record { image_is = same.image ∙ rest_known s Image x image of_image; journal_is = same.journal ∙ rest_known s Journal y journal of_journal }
 
   -- a journal that is void
-  pub restored_void : SameAll s t → slot_of y ≡ Void → IsRestored x y t (record { armed = false; selected = A })
+  pub restored_void : SameAll s t → slot_of y ≡ Void → AreRecovered x y t
   restored_void same void = record {
     bytes = x;
     recovered = subst (λ (read : Reading). StandsFor read x x) (sym void) refl;
     synced = first_synced same;
-    stands = void;
   }
 
-stands_armed : (armed : Bool) (s : Slot) (journal : List ℕ) → IsTrue armed → CountsWith s journal → StandsSo armed s journal
-stands_armed true s journal is counts = counts
-stands_armed false s journal is counts = cc
-
 -- a journal that counts
-pub restored_held : (s mid t : State) (r : Record) (x y : List ℕ) (j : JournalState) → AreSynced x y mid
+pub restored_held : (mid t : State) (r : Record) (x y : List ℕ) → AreSynced x y mid
     → known t Image ≡ option_map (λ (d : Disk). at_rest (applied r d.seen)) (known mid Image) → LeavesOther Image mid t
-    → slot_of y ≡ Holds r → CanBeOf r.guid r.committed x → IsTrue j.armed → CountsWith j.selected y → IsRestored x y t j
-restored_held s mid t r x y j synced image other holds fits armed counts =
+    → slot_of y ≡ Holds r → CanBeOf r.guid r.committed x → AreRecovered x y t
+restored_held mid t r x y synced image other holds fits =
     let made : Makes r x (applied r x) = record { long = fits.long; guid = fits.stored; is = refl } in
     record {
       bytes = applied r x;
@@ -64,13 +58,36 @@ restored_held s mid t r x y j synced image other holds fits armed counts =
         image_is = image ∙ ap (option_map (λ (d : Disk). at_rest (applied r d.seen))) synced.image_is;
         journal_is = other.file ∙ synced.journal_is;
       };
-      stands = stands_armed j.armed j.selected y armed counts;
     }
 
+pub stands_armed : (armed : Bool) (s : Slot) (journal : List ℕ) → IsTrue armed → CountsWith s journal → StandsSo armed s journal
+stands_armed true s journal is counts = counts
+stands_armed false s journal is counts = cc
+
+pub counts_armed : (armed : Bool) (s : Slot) (journal : List ℕ) → IsTrue armed → StandsSo armed s journal → Counts journal
+counts_armed true s journal is stands = stands.counts
+counts_armed false s journal is stands = cc
+
+pub void_unarmed : (armed : Bool) (s : Slot) (journal : List ℕ) → armed ≡ false → StandsSo armed s journal → slot_of journal ≡ Void
+void_unarmed true s journal is stands = cc
+void_unarmed false s journal is stands = stands
+
+-- a journal that is at rest stands as what is read of it
+pub stands_everywhere : (s t : State) (P : List ℕ → Type 0) → ForSome (known s Journal) IsAtRest → known t Journal ≡ known s Journal → ForSome (seen_of s Journal) P → ForSome (known t Journal) (Everywhere P)
+stands_everywhere s t P rest same h disk is =
+    let was : known s Journal ≡ Some disk = sym same ∙ is in
+    subst (Everywhere P) (sym (rest disk was)) (everywhere_at_rest P disk.seen (h disk.seen (ap (option_map (λ (d : Disk). d.seen)) was)))
+
+-- an image that was recovered is at rest
+pub recovered_rests : (before now : Option Disk) (g : List ℕ → List ℕ) → now ≡ option_map (λ (d : Disk). at_rest (g d.seen)) before → ForSome now IsAtRest
+recovered_rests before now g ok disk is =
+    let from = came_from before now (λ (d : Disk). at_rest (g d.seen)) disk ok is in
+    from.is ∙ ap (λ (d : Disk). at_rest d.seen) (sym from.is)
+
 -- the image was read
-pub unread_tells : (mid t : State) (j : JournalState) (x y : List ℕ) (error : OpenError) → IsRestored x y mid j → SameAll mid t
+pub unread_tells : (mid t : State) (x y : List ℕ) (error : OpenError) → AreRecovered x y mid → SameAll mid t
     → ForSome (seen_of mid Image) (λ image. RefusesImage image error) → Tells x y t error
-unread_tells mid t j x y error r same refuses = cases error (refuses r.bytes (ap (option_map (λ (d : Disk). d.seen)) r.synced.image_is))
+unread_tells mid t x y error r same refuses = cases error (refuses r.bytes (ap (option_map (λ (d : Disk). d.seen)) r.synced.image_is))
   where
     cases : (error : OpenError) → RefusesImage r.bytes error → Tells x y t error
     cases (JournalVersion version) h = absurd h

@@ -63,8 +63,7 @@ module _ (all : Devices) (image : IsAtRest all.image) (journal : IsAtRest all.jo
   pub rest_stays : (i j o : List ℕ) → LeavesNow all i j o → Stays all i j o
   rest_stays i j o l =
       let of_image : i ≡ all.image.seen = left_seen all.image i image l.image_is in
-      let of_journal : j ≡ all.journal.seen = left_seen all.journal j journal l.journal_is in
-      (
+      let of_journal : j ≡ all.journal.seen = left_seen all.journal j journal l.journal_is in (
         record {
           same = λ bytes r. subst (λ (x : List ℕ). Recovered x j bytes) (sym of_image) (subst (λ (x : List ℕ). Recovered all.image.seen x bytes) (sym of_journal) r);
           none = λ never. (of_image, of_journal);
@@ -92,8 +91,7 @@ module _ (all : Devices) (image : IsAtRest all.image) (journal : IsAtRest all.jo
 pub closing_stands : (all : Devices) → IsAtRest all.image → StandsForItself all → (i j o : List ℕ)
     → Left all.image.durable i × SaysAsBeforeOrVoid all.journal.durable j × (o ≡ all.said) → Recovered i j all.image.seen × (o ≡ all.said)
 closing_stands all rest own i j o p =
-    let of_image : i ≡ all.image.seen = left_seen all.image i rest p.0 in
-    (
+    let of_image : i ≡ all.image.seen = left_seen all.image i rest p.0 in (
       ⊎_elim
           (λ same. subst (λ (read : Reading). StandsFor read i all.image.seen) (sym same) (own i p.1.old all.said (record { image_is = p.0; journal_is = p.1.was; said_is = refl })))
           (λ void. subst (λ (read : Reading). StandsFor read i all.image.seen) (sym void) (sym of_image)) p.1.same,

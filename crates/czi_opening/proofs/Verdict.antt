@@ -2,11 +2,13 @@
 use Rattle.std.proofs.Common.{◌≡◌, ◌⊎◌, ⊎_elim, inl, inr, ℕ, ◌<◌, ◌≤◌, List, [], ◌∷◌, length, take, drop, get_or, refl, sym, ◌∙◌, ap, subst, arith}
 use Rattle.std.proofs.lemmas.Bool.{cases_eq, cases_lt}
 use Rattle.czi_format.specs.Document.{Document}
-use Rattle.czi_format.specs.Live.{update_pending}
+use Rattle.czi_format.specs.Live.{document, update_pending}
 use Rattle.czi_format.specs.Shows.{Shows}
 use Rattle.czi_format.specs.Refusals.{Refusal, IsRefused}
 use Rattle.czi_format.proofs.Unique.{shows_unique}
 use Rattle.czi_format.proofs.Rules.{refused_or_shown, never_both}
+use Rattle.czi_image.specs.declared.index.Index.{Index}
+use Rattle.czi_image.specs.Holds.{Indexes}
 use Rattle.czi_links.specs.Record.{Record}
 use Rattle.czi_links.specs.Reading.{Reading, Void, Holds, OfVersion, BadAt}
 use Rattle.czi_journal.specs.Journals.{slot_of}
@@ -77,3 +79,6 @@ not_both image journal d (of_another record_guid image_guid) o c =
 not_both image journal d (unread refusal) o c =
     let same = stands_one (slot_of journal) image o.bytes c.bytes o.recovered c.recovered in
     never_both c.bytes refusal d c.refused (subst (λ (x : List ℕ). Shows x d) same o.shows) (ap update_pending (sym same) ∙ o.idle)
+
+pub indexed : (image journal bytes : List ℕ) (index : Index) → Recovered image journal bytes → Indexes bytes index → (d : Document) × Opens image journal d
+indexed image journal bytes index r x = (document bytes x.live, record { bytes = bytes; recovered = r; shows = (x.live, x.reaches, refl); idle = x.idle })

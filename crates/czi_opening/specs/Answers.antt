@@ -1,7 +1,7 @@
 -- What an opening answers, and what it leaves.
-use Rattle.std.specs.Prelude.{◌≡◌, ℕ, List, [], Bool, true, false, Option, None, Some, IfSome}
+use Rattle.std.specs.Prelude.{◌≡◌, ℕ, List, Bool, true, false, Option, None, Some, IfSome}
 use Rattle.czi_rig.specs.declared.file.File.TheVariants.{Image, Journal}
-use Rattle.czi_rig.specs.Disk.{Disk, Everywhere, at_rest}
+use Rattle.czi_rig.specs.Disk.{at_rest}
 use Rattle.czi_rig.specs.State.{State, known}
 use Rattle.czi_rig.specs.Passes.{Rose}
 use Rattle.czi_format.specs.Refusals as refusals
@@ -11,9 +11,7 @@ use Rattle.czi_links.specs.Reading.{Void}
 use Rattle.czi_journal.specs.declared.journal.Journal.{Journal as JournalState}
 use Rattle.czi_journal.specs.declared.journal.Slot.{Slot}
 use Rattle.czi_journal.specs.Journals.{slot_of, CountsWith}
-use Rattle.czi_image.specs.Holds.{Indexes}
 use Rattle.czi_vault.specs.Recovered.{Recovered}
-use Rattle.czi_opening.specs.declared.opening.Opened.{Opened}
 use Rattle.czi_opening.specs.declared.error.ImageRefusal.{ImageRefusal}
 use Rattle.czi_opening.specs.declared.error.ImageRefusal.TheVariants.{NotCzi, MultiPart, Pending, BadDirectory, TooMany, BadEntry, BadSegment, BadAttachment, Overlap}
 use Rattle.czi_opening.specs.declared.error.OpenError.{OpenError}
@@ -48,7 +46,7 @@ pub record AreSynced (image journal : List ℕ) (s : State) : Type 0 where
   pub image_is : known s Image ≡ Some (at_rest image)
   pub journal_is : known s Journal ≡ Some (at_rest journal)
 
--- both files have these bytes, or the image has become what they stood for
+-- the image has become the bytes that both files stood for, the journal has its own, and all of them are on the disk
 pub record AreRecovered (image journal : List ℕ) (s : State) : Type 0 where
   pub bytes : List ℕ
   pub recovered : Recovered image journal bytes
@@ -73,16 +71,6 @@ StandsSo false slot journal = slot_of journal ≡ Void
 
 abbrev pub IsJournal : JournalState → List ℕ → Type 0
 IsJournal j journal = StandsSo j.armed j.selected journal
-
--- The files were opened: the image has become the bytes that both stood for, of which this is the index; the journal has the
--- bytes that it had, and stands as it is told; both are on the disk.
-pub record IsOpened (image journal : List ℕ) (s : State) (o : Opened) : Type 0 where
-  pub bytes : List ℕ
-  pub recovered : Recovered image journal bytes
-  pub indexes : Indexes bytes o.index
-  pub synced : AreSynced bytes journal s
-  pub stands : Everywhere (IsJournal o.journal) (at_rest journal)
-  pub no_links : o.links.links ≡ []
 
 -- a device fails only where the count of that file rose
 abbrev pub IsCaused : State → State → OpenError → Type 0

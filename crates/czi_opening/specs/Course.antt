@@ -1,10 +1,8 @@
 -- What a crash leaves while an image is opened or closed.
-use Rattle.std.specs.Prelude.{◌≡◌, ◌⊎◌, ℕ, List, Bool, true, false, Result, Ok, Err}
+use Rattle.std.specs.Prelude.{◌≡◌, ◌⊎◌, ℕ, List, Result, Ok, Err}
 use Rattle.czi_rig.specs.declared.rig.Rig.{Ghosts}
 use Rattle.czi_rig.specs.State.{Instant}
 use Rattle.czi_rig.specs.Moments.{Devices, Throughout, Always, LeavesNow}
-use Rattle.czi_links.specs.Reading.{Void}
-use Rattle.czi_journal.specs.Journals.{slot_of, Counts}
 use Rattle.czi_vault.specs.Recovered.{Recovered}
 use Rattle.czi_opening.specs.declared.opening.Opened.{Opened}
 use Rattle.czi_opening.specs.declared.error.OpenError.{OpenError}
@@ -45,8 +43,3 @@ OpensFrom rig old new P (Err Memory) = From rig old new P
 -- each journal that a crash now may leave makes the image stand for itself
 abbrev pub StandsForItself : Devices → Type 0
 StandsForItself all = (image journal said : List ℕ) → LeavesNow all image journal said → Recovered image journal all.image.seen
-
--- a journal that is armed counts, another one is void
-abbrev pub CountsOrVoid : Bool → List ℕ → Type 0
-CountsOrVoid true journal = Counts journal
-CountsOrVoid false journal = slot_of journal ≡ Void

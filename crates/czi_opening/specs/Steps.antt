@@ -1,19 +1,16 @@
 -- What the steps of an opening answer.
 use Rattle.std.specs.Prelude.{◌≡◌, ℕ, ◌<◌, ◌≤◌, List, length, take, drop, Option, Err}
 use Rattle.czi_format.specs.Refusals.{reading}
-use Rattle.czi_rig.specs.State.{State}
 use Rattle.czi_rig.specs.Disk.{Disk}
-use Rattle.czi_journal.specs.declared.journal.Journal.{Journal as JournalState}
 use Rattle.czi_journal.specs.declared.probing.JournalFault.{JournalFault}
 use Rattle.czi_journal.specs.declared.probing.JournalFault.TheVariants as of_journal
 use Rattle.czi_image.specs.declared.fault.ImageFault.{ImageFault}
 use Rattle.czi_image.specs.declared.fault.ImageFault.TheVariants as of_image
-use Rattle.czi_vault.specs.Recovered.{Recovered}
 use Rattle.czi_opening.specs.declared.error.ImageRefusal.{ImageRefusal}
 use Rattle.czi_opening.specs.declared.error.ImageRefusal.TheVariants.{NotCzi, MultiPart, Pending, BadDirectory, TooMany, BadEntry, BadSegment, BadAttachment, Overlap}
 use Rattle.czi_opening.specs.declared.error.OpenError.{OpenError}
 use Rattle.czi_opening.specs.declared.error.OpenError.TheVariants.{JournalVersion, BadJournal, ImageShort, ForeignJournal, Refused, ImageDevice, JournalDevice, Memory}
-use Rattle.czi_opening.specs.Answers.{refusal_of, AreSynced, IsJournal}
+use Rattle.czi_opening.specs.Answers.{refusal_of}
 
 -- the error that tells a fault of reading the image
 abbrev pub image_error : ImageFault → OpenError
@@ -84,10 +81,3 @@ RefusesImage image (Refused refusal) = reading image ≡ Err (refusal_of refusal
 RefusesImage image ImageDevice = Unit {0}
 RefusesImage image JournalDevice = ⊥
 RefusesImage image Memory = Unit {0}
-
--- both files are synced, and the image is the recovered one
-pub record IsRestored (image journal : List ℕ) (s : State) (j : JournalState) : Type 0 where
-  pub bytes : List ℕ
-  pub recovered : Recovered image journal bytes
-  pub synced : AreSynced bytes journal s
-  pub stands : IsJournal j journal

@@ -10,7 +10,8 @@ ghost use Rattle.czi_rig.specs.Passes.{GoesOn, Rose};
 ghost use Rattle.czi_rig.specs.Moments.{devices, Throughout};
 ghost use Rattle.czi_rig.specs.Quiet.{Untouched};
 ghost use Rattle.czi_vault.specs.Recovered.{Recovered};
-ghost use Rattle.czi_opening.specs.Course.{CountsOrVoid, StandsForItself};
+ghost use Rattle.czi_opening.specs.Answers.{IsJournal};
+ghost use Rattle.czi_opening.specs.Course.{StandsForItself};
 
 use czi_journal::{Journal, seal};
 use czi_rig::{Failed, File, Rig};
@@ -21,7 +22,7 @@ use czi_rig::{Failed, File, Rig};
 ///
 /// `Failed` where a call on the journal failed. The journal then counts as before, or is void.
 pub fn close<R: Rig>(rig: &mut R, journal: Journal) -> Result<(), Failed>
-    requires stands { ForSome (known (R.state rig.old) File.Journal) (Everywhere (CountsOrVoid journal.armed)) }
+    requires stands { ForSome (known (R.state rig.old) File.Journal) (Everywhere (IsJournal journal)) }
 
     // Where the image is at rest and stands for itself, each pair that a crash leaves stands for it.
     ensures moments { ForSome (devices (R.state rig.old)) (λ all. IsAtRest all.image → StandsForItself all

@@ -2,6 +2,9 @@
 
 ghost use Rattle.std.specs.Prelude.{◌≡◌, ◌⊎◌, ℕ, List};
 ghost use Rattle.czi_format.specs.Document.{Document};
+ghost use Rattle.czi_image.specs.Holds.{Indexes};
+ghost use Rattle.czi_image.specs.declared.index.Index.{Index};
+ghost use Rattle.czi_vault.specs.Recovered.{Recovered};
 ghost use Rattle.czi_opening.specs.Opens.{Cause, IsRefusedBy, Opens};
 
 /// An image and its journal open to one document at most.
@@ -9,7 +12,14 @@ pub fn one_opening()
     ensures { (image journal : List ℕ) (d e : Document) → Opens image journal d → Opens image journal e → d ≡ e }
 {}
 
-/// An image and its journal open to a document, or they are refused. Never both.
+/// The bytes that an image and its journal stand for are theirs alone, and where these have an index, the files
+/// open to a document.
+pub fn indexed_opens()
+    ensures one { (image journal bytes others : List ℕ) → Recovered image journal bytes → Recovered image journal others → bytes ≡ others }
+    ensures opens { (image journal bytes : List ℕ) (index : Index) → Recovered image journal bytes → Indexes bytes index → (d : Document) × Opens image journal d }
+{}
+
+/// An image and its journal open to a document, or they are refused for one cause. Never both.
 pub fn opened_or_refused()
     ensures either { (image journal : List ℕ) → ((d : Document) × Opens image journal d) ⊎ ((cause : Cause) × IsRefusedBy image journal cause) }
     ensures not_both { (image journal : List ℕ) (d : Document) (cause : Cause) → Opens image journal d → IsRefusedBy image journal cause → ⊥ }

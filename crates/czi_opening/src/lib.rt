@@ -13,5 +13,8 @@ mod steps;
 
 pub use closing::close;
 pub use error::{ImageRefusal, OpenError};
-pub use laws::{one_opening, opened_or_refused};
+pub use laws::{indexed_opens, one_opening, opened_or_refused};
 pub use opening::{Opened, open};
+
+#[cfg(test)]
+mod tests;

@@ -1,12 +1,13 @@
 //! Opening an image beside its journal.
 
-ghost use Rattle.std.specs.Prelude.{◌≡◌, IfOk, IfErr};
+ghost use Rattle.std.specs.Prelude.{◌≡◌, [], IfOk, IfErr, OnOk};
 ghost use Rattle.std.specs.Option.{ForSome};
-ghost use Rattle.czi_rig.specs.Disk.{IsAtRest};
+ghost use Rattle.czi_image.specs.Holds.{Indexes};
+ghost use Rattle.czi_rig.specs.Disk.{Everywhere, IsAtRest};
 ghost use Rattle.czi_rig.specs.State.{known, seen_of};
 ghost use Rattle.czi_rig.specs.Passes.{GoesOn};
 ghost use Rattle.czi_rig.specs.Moments.{devices, Throughout};
-ghost use Rattle.czi_opening.specs.Answers.{IsCaused, IsOpened, Tells};
+ghost use Rattle.czi_opening.specs.Answers.{AreRecovered, IsCaused, IsJournal, Tells};
 ghost use Rattle.czi_opening.specs.Course.{OpensFrom, Stays};
 
 use crate::error::OpenError;
@@ -36,8 +37,14 @@ pub struct Opened {
 /// After one of the first four nothing was written, and both files are synced. After `Refused` the image is the
 /// recovered one. After the others each pair of files that a crash leaves stands for what they stood for.
 pub fn open<R: Rig>(alloc: Global, rig: &mut R) -> Result<Opened, OpenError>
-    ensures opened { IfOk result (λ o. ForSome (seen_of (R.state rig.old) File.Image) (λ image. ForSome (seen_of (R.state rig.old) File.Journal) (λ journal.
-        IsOpened image journal (R.state rig.new) o))) }
+    // The image becomes what both files stood for, the journal stays. Both are on the disk, and stand as it is told.
+    ensures recovered { OnOk result (ForSome (seen_of (R.state rig.old) File.Image) (λ image. ForSome (seen_of (R.state rig.old) File.Journal) (λ journal.
+        AreRecovered image journal (R.state rig.new)))) }
+    ensures shown { IfOk result (λ o. ForSome (seen_of (R.state rig.new) File.Image) (λ image. Indexes image o.index)) }
+    ensures stands { IfOk result (λ o. ForSome (known (R.state rig.new) File.Journal) (Everywhere (IsJournal o.journal))) }
+    ensures synced { OnOk result (ForSome (known (R.state rig.new) File.Image) IsAtRest × ForSome (known (R.state rig.new) File.Journal) IsAtRest) }
+    ensures no_links { IfOk result (λ o. o.links.links ≡ []) }
+    // A refusal tells its cause; there is one exactly where the files don't open.
     ensures refused { IfErr result (λ error. ForSome (seen_of (R.state rig.old) File.Image) (λ image. ForSome (seen_of (R.state rig.old) File.Journal) (λ journal.
         Tells image journal (R.state rig.new) error))) }
     // Until both files are synced nothing is left that the start couldn't leave. From then on each pair stands for what the start did.
@@ -55,8 +62,12 @@ fn open_synced<R: Rig>(alloc: Global, rig: &mut R) -> Result<Opened, OpenError>
     requires image { ForSome (known (R.state rig.old) File.Image) IsAtRest }
     requires journal { ForSome (known (R.state rig.old) File.Journal) IsAtRest }
 
-    ensures opened { IfOk result (λ o. ForSome (seen_of (R.state rig.old) File.Image) (λ image. ForSome (seen_of (R.state rig.old) File.Journal) (λ journal.
-        IsOpened image journal (R.state rig.new) o))) }
+    ensures recovered { OnOk result (ForSome (seen_of (R.state rig.old) File.Image) (λ image. ForSome (seen_of (R.state rig.old) File.Journal) (λ journal.
+        AreRecovered image journal (R.state rig.new)))) }
+    ensures shown { IfOk result (λ o. ForSome (seen_of (R.state rig.new) File.Image) (λ image. Indexes image o.index)) }
+    ensures stands { IfOk result (λ o. ForSome (known (R.state rig.new) File.Journal) (Everywhere (IsJournal o.journal))) }
+    ensures synced { OnOk result (ForSome (known (R.state rig.new) File.Image) IsAtRest × ForSome (known (R.state rig.new) File.Journal) IsAtRest) }
+    ensures no_links { IfOk result (λ o. o.links.links ≡ []) }
     ensures refused { IfErr result (λ error. ForSome (seen_of (R.state rig.old) File.Image) (λ image. ForSome (seen_of (R.state rig.old) File.Journal) (λ journal.
         Tells image journal (R.state rig.new) error))) }
     ensures moments { ForSome (devices (R.state rig.old)) (λ all. Throughout R.Rig rig.old rig.new (Stays all)) }

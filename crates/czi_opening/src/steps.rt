@@ -6,15 +6,15 @@ ghost use Rattle.czi_image.specs.Holds.{Indexes};
 ghost use Rattle.czi_journal.specs.Journals.{slot_of};
 ghost use Rattle.czi_links.specs.Reading.{Holds, IsRead};
 ghost use Rattle.czi_links.specs.Record.{record_of};
-ghost use Rattle.czi_rig.specs.Disk.{IsAtRest, at_rest};
+ghost use Rattle.czi_rig.specs.Disk.{Everywhere, IsAtRest, at_rest};
 ghost use Rattle.czi_rig.specs.State.{LeavesOther, known, seen_of};
 ghost use Rattle.czi_rig.specs.Passes.{GoesOn};
 ghost use Rattle.czi_rig.specs.Moments.{devices, Throughout};
 ghost use Rattle.czi_rig.specs.Quiet.{AddsNothing, Untouched};
 ghost use Rattle.czi_vault.specs.Recovered.{applied};
-ghost use Rattle.czi_opening.specs.Answers.{IsCaused, Tells};
+ghost use Rattle.czi_opening.specs.Answers.{AreRecovered, IsCaused, IsJournal, Tells};
 ghost use Rattle.czi_opening.specs.Course.{Stays};
-ghost use Rattle.czi_opening.specs.Steps.{CanBeOf, IfNotOf, IsDevice, IsNotOf, IsRestored, RefusesImage};
+ghost use Rattle.czi_opening.specs.Steps.{CanBeOf, IfNotOf, IsDevice, IsNotOf, RefusesImage};
 
 use crate::error::OpenError;
 use czi_image::{Index, read_index};
@@ -107,8 +107,10 @@ pub(crate) fn restore<R: Rig>(
     requires image { ForSome (known (R.state rig.old) File.Image) IsAtRest }
     requires journal { ForSome (known (R.state rig.old) File.Journal) IsAtRest }
 
-    ensures restored { IfOk result (λ j. ForSome (seen_of (R.state rig.old) File.Image) (λ image. ForSome (seen_of (R.state rig.old) File.Journal) (λ journal.
-        IsRestored image journal (R.state rig.new) j))) }
+    ensures restored { OnOk result (ForSome (seen_of (R.state rig.old) File.Image) (λ image. ForSome (seen_of (R.state rig.old) File.Journal) (λ journal.
+        AreRecovered image journal (R.state rig.new)))) }
+    ensures stands { IfOk result (λ j. ForSome (known (R.state rig.new) File.Journal) (Everywhere (IsJournal j))) }
+    ensures synced { OnOk result (ForSome (known (R.state rig.new) File.Image) IsAtRest) }
     ensures refused { IfErr result (λ error. ForSome (seen_of (R.state rig.old) File.Image) (λ image. ForSome (seen_of (R.state rig.old) File.Journal) (λ journal.
         Tells image journal (R.state rig.new) error))) }
     ensures moments { ForSome (devices (R.state rig.old)) (λ all. Throughout R.Rig rig.old rig.new (Stays all)) }
