@@ -121,7 +121,7 @@ held_in_or_apart : (s : State) → IsTidy s → AllByRecursion (λ (h : Span). L
 held_in_or_apart s is = in_or_apart (held_by (items_of s.layout) s.formers) s.layout.deleted (λ p. cover (dead_held s) p) is.held_in (λ p. omega arith) (λ p. omega (arith, is.once p))
 
 -- spans that have no place from some place on end there or before
-ends_before : (hs : List Span) (n : ℕ) → AllByRecursion (λ (h : Span). 0 < h.len) hs → ((p : ℕ) → n ≤ p → cover hs p ≡ 0) → AllByRecursion (λ (h : Span). end_of h ≤ n) hs
+pub ends_before : (hs : List Span) (n : ℕ) → AllByRecursion (λ (h : Span). 0 < h.len) hs → ((p : ℕ) → n ≤ p → cover hs p ≡ 0) → AllByRecursion (λ (h : Span). end_of h ≤ n) hs
 ends_before [] n some none = tt
 ends_before (h ∷ hs) n some none = (
   elim (cases_lt n (end_of h)) [

@@ -65,6 +65,29 @@ set_brought f P same old all = tt
 set_brought f P (to None) old all = tt
 set_brought f P (to (Some x)) old all = (all.0, tt)
 
+-- what holds of the spans that a former has and the newer one hasn't holds of the items that are brought back
+pub record HasBack (P : Span → Type 0) (r : Return) : Type 0 where
+  pub tiles : AllByRecursion (λ (y : Lain Tile). P (extent y.item.segment)) (brought r.tiles)
+  pub attachments : AllByRecursion (λ (y : Lain AttItem). P (extent y.item.segment)) (brought r.attachments)
+  pub metadata : AllByRecursion (λ (y : Lain MetaItem). P (extent y.item.segment)) (option_to_list (set_new r.metadata))
+
+pub has_back : (P : Span → Type 0) (image : List ℕ) (newer : Items) (r : Return) → LiesHeld image newer r → AllByRecursion P (spans_of (not_among (item_spans newer) (item_places (return_items r newer)))) → HasBack P r
+has_back P image newer r lies have =
+    let Q : Place → Type 0 = λ p. P p.span in
+    let q : Place → Bool = λ p. not (list_any (same_span p.span) (item_spans newer)) in
+    let i : Items = return_items r newer in
+    let all : AllByRecursion (λ p. q p ≡ true → Q p) (item_places i) = All-passing Q q (item_places i) (All-map (λ (p : Place). p.span) P (filter q (item_places i)) have) in
+    let one = All-append (λ p. q p ≡ true → Q p) i.subblocks (i.attachments ++ option_to_list i.metadata) all in
+    let two = All-append (λ p. q p ≡ true → Q p) i.attachments (option_to_list i.metadata) one.1 in
+    record {
+      tiles = on_all _ (λ (y : Lain Tile). q (tile_place y) ≡ true → Q (tile_place y)) (λ (y : Lain Tile). P (extent y.item.segment)) (λ y l f. f (ap not l.4)) (brought r.tiles) lies.tiles
+          (mapped_brought tile_place (λ p. q p ≡ true → Q p) r.tiles (All-brought (λ p. q p ≡ true → Q p) (mapped tile_place r.tiles) newer.subblocks one.0));
+      attachments = on_all _ (λ (y : Lain AttItem). q (attachment_place y) ≡ true → Q (attachment_place y)) (λ (y : Lain AttItem). P (extent y.item.segment)) (λ y l f. f (ap not l.4)) (brought r.attachments) lies.attachments
+          (mapped_brought attachment_place (λ p. q p ≡ true → Q p) r.attachments (All-brought (λ p. q p ≡ true → Q p) (mapped attachment_place r.attachments) newer.attachments two.0));
+      metadata = on_all _ (λ (y : Lain MetaItem). q (metadata_place y) ≡ true → Q (metadata_place y)) (λ (y : Lain MetaItem). P (extent y.item.segment)) (λ y l f. f (ap not l.3)) (option_to_list (set_new r.metadata)) lies.metadata
+          (set_brought metadata_place (λ p. q p ≡ true → Q p) r.metadata newer.metadata two.1);
+    }
+
 -- the held items of the next former
 record SameReturn (image other : List ℕ) (r : Return) : Type 0 where
   tiles : AllByRecursion (λ (y : Lain Tile). data_of other y.item.segment ≡ data_of image y.item.segment) (brought r.tiles)
@@ -73,22 +96,11 @@ record SameReturn (image other : List ℕ) (r : Return) : Type 0 where
 
 same_return : (image other : List ℕ) (newer : Items) (r : Return) → LiesHeld image newer r → AllByRecursion (SameBehind image other) (spans_of (not_among (item_spans newer) (item_places (return_items r newer)))) → SameReturn image other r
 same_return image other newer r lies alike =
-    let P : Place → Type 0 = λ p. SameBehind image other p.span in
-    let q : Place → Bool = λ p. not (list_any (same_span p.span) (item_spans newer)) in
-    let i : Items = return_items r newer in
-    let all : AllByRecursion (λ p. q p ≡ true → P p) (item_places i) = All-passing P q (item_places i) (All-map (λ (p : Place). p.span) (SameBehind image other) (filter q (item_places i)) alike) in
-    let one = All-append (λ p. q p ≡ true → P p) i.subblocks (i.attachments ++ option_to_list i.metadata) all in
-    let two = All-append (λ p. q p ≡ true → P p) i.attachments (option_to_list i.metadata) one.1 in
+    let h : HasBack (SameBehind image other) r = has_back (SameBehind image other) image newer r lies alike in
     record {
-      tiles = on_all _ (λ (y : Lain Tile). q (tile_place y) ≡ true → P (tile_place y)) (λ (y : Lain Tile). data_of other y.item.segment ≡ data_of image y.item.segment)
-          (λ y l f. same_data image other y.item.segment (f (ap not l.3))) (brought r.tiles) lies.tiles
-          (mapped_brought tile_place (λ p. q p ≡ true → P p) r.tiles (All-brought (λ p. q p ≡ true → P p) (mapped tile_place r.tiles) newer.subblocks one.0));
-      attachments = on_all _ (λ (y : Lain AttItem). q (attachment_place y) ≡ true → P (attachment_place y)) (λ (y : Lain AttItem). data_of other y.item.segment ≡ data_of image y.item.segment)
-          (λ y l f. same_data image other y.item.segment (f (ap not l.3))) (brought r.attachments) lies.attachments
-          (mapped_brought attachment_place (λ p. q p ≡ true → P p) r.attachments (All-brought (λ p. q p ≡ true → P p) (mapped attachment_place r.attachments) newer.attachments two.0));
-      metadata = on_all _ (λ (y : Lain MetaItem). q (metadata_place y) ≡ true → P (metadata_place y)) (λ (y : Lain MetaItem). data_of other y.item.segment ≡ data_of image y.item.segment)
-          (λ y l f. same_data image other y.item.segment (f (ap not l.2))) (option_to_list (set_new r.metadata)) lies.metadata
-          (set_brought metadata_place (λ p. q p ≡ true → P p) r.metadata newer.metadata two.1);
+      tiles = All-weaken (λ (y : Lain Tile). SameBehind image other (extent y.item.segment)) _ (λ y b. same_data image other y.item.segment b) (brought r.tiles) h.tiles;
+      attachments = All-weaken (λ (y : Lain AttItem). SameBehind image other (extent y.item.segment)) _ (λ y b. same_data image other y.item.segment b) (brought r.attachments) h.attachments;
+      metadata = All-weaken (λ (y : Lain MetaItem). SameBehind image other (extent y.item.segment)) _ (λ y b. same_data image other y.item.segment b) (option_to_list (set_new r.metadata)) h.metadata;
     }
 
 -- it brings back the same
@@ -104,9 +116,9 @@ same_brought_back image other newer r alike =
 
 same_held : (image other : List ℕ) (newer : Items) (r : Return) → LiesHeld image newer r → SameReturn image other r → LiesHeld other newer r
 same_held image other newer r lies alike = record {
-  tiles = on_all _ (λ (y : Lain Tile). data_of other y.item.segment ≡ data_of image y.item.segment) _ (λ y l d. (ap (tile y.item.entry y.item.segment) d ∙ l.0, l.1, l.2, l.3)) (brought r.tiles) lies.tiles alike.tiles;
-  attachments = on_all _ (λ (y : Lain AttItem). data_of other y.item.segment ≡ data_of image y.item.segment) _ (λ y l d. (ap (att_item y.item.entry y.item.segment) d ∙ l.0, l.1, l.2, l.3)) (brought r.attachments) lies.attachments alike.attachments;
-  metadata = on_all _ (λ (y : Lain MetaItem). data_of other y.item.segment ≡ data_of image y.item.segment) _ (λ y l d. (ap (meta_item y.item.segment) d ∙ l.0, l.1, l.2)) (option_to_list (set_new r.metadata)) lies.metadata alike.metadata;
+  tiles = on_all _ (λ (y : Lain Tile). data_of other y.item.segment ≡ data_of image y.item.segment) _ (λ y l d. (ap (tile y.item.entry y.item.segment) d ∙ l.0, l.1, l.2, l.3, l.4)) (brought r.tiles) lies.tiles alike.tiles;
+  attachments = on_all _ (λ (y : Lain AttItem). data_of other y.item.segment ≡ data_of image y.item.segment) _ (λ y l d. (ap (att_item y.item.entry y.item.segment) d ∙ l.0, l.1, l.2, l.3, l.4)) (brought r.attachments) lies.attachments alike.attachments;
+  metadata = on_all _ (λ (y : Lain MetaItem). data_of other y.item.segment ≡ data_of image y.item.segment) _ (λ y l d. (ap (meta_item y.item.segment) d ∙ l.0, l.1, l.2, l.3)) (option_to_list (set_new r.metadata)) lies.metadata alike.metadata;
 }
 
 -- so the whole list does

@@ -1,5 +1,5 @@
 -- After an edit, what undoes it brings back the document before it, and the older ones are brought back as they were.
-use Rattle.std.proofs.Common.{◌≡◌, ℕ, zero, suc, ℤ, pos, negsuc, List, ◌∷◌, ◌++◌, take, Bool, true, false, not, Option, Some, None, Ok, option_map, option_to_list, ap, sym, ◌∙◌, arith, subst, inl}
+use Rattle.std.proofs.Common.{◌≡◌, ◌≤◌, ℕ, zero, suc, ℤ, pos, negsuc, List, ◌∷◌, ◌++◌, take, Bool, true, false, not, Option, Some, None, Ok, option_map, option_to_list, ap, sym, ◌∙◌, arith, subst, inl}
 use Rattle.std.specs.List.{AllByRecursion, list_any}
 use Rattle.czi_format.specs.Document.{Document}
 use Rattle.czi_format.specs.Layout.{Place, Layout}
@@ -126,6 +126,7 @@ back_again image other s s' live t at alike shown edited_is like =
 record IsKnown {X : Type 0} (other id : List ℕ) (position : X → ℤ) (read : X → Segment → List ℕ → Option X) (segment : X → Segment) (x : X) : Type 0 where
   reads : read x (segment x) (data_of other (segment x)) ≡ Some x
   id_is : (segment x).id ≡ id
+  sound : (segment x).used ≤ (segment x).allocated
   place : position x ≡ pos (segment x).at
 
 -- What undoes an edit is read where it was, and what it brings isn't among the items.
@@ -139,17 +140,17 @@ lies_held image other s s' live t reaches at alike out =
     let H : MetaItem → Type 0 = λ x. IsKnown other metadata_id (λ (x : MetaItem). live.header.metadata) (λ (x : MetaItem). meta_item) (λ (x : MetaItem). x.segment) x in
     let tiles : AllByRecursion F live.tiles = on_all (λ (x : Tile). subblock_at image x.entry ≡ Some x) (λ (x : Tile). data_of other x.segment ≡ data_of image x.segment) F
     (λ x f d. let r : IsRead image subblock_id x.entry.position (tile x.entry) (λ (x : Tile). x.segment) x = is_read image subblock_id x.entry.position (tile x.entry) (λ (x : Tile). x.segment) x (tile_own x.entry) f in
-    record { reads = ap (tile x.entry x.segment) d ∙ r.reads; id_is = r.id_is; place = r.place }) live.tiles (each_found (subblock_at image) (λ (x : Tile). x.entry) live.tiles reaches.tiles) alike.tiles in
+    record { reads = ap (tile x.entry x.segment) d ∙ r.reads; id_is = r.id_is; sound = r.sound; place = r.place }) live.tiles (each_found (subblock_at image) (λ (x : Tile). x.entry) live.tiles reaches.tiles) alike.tiles in
     let atts : AllByRecursion G live.attachments = on_all (λ (x : AttItem). attachment_at image x.entry ≡ Some x) (λ (x : AttItem). data_of other x.segment ≡ data_of image x.segment) G
     (λ x f d. let r : IsRead image attachment_id x.entry.position (att_item x.entry) (λ (x : AttItem). x.segment) x = is_read image attachment_id x.entry.position (att_item x.entry) (λ (x : AttItem). x.segment) x (att_item_own x.entry) f in
-    record { reads = ap (att_item x.entry x.segment) d ∙ r.reads; id_is = r.id_is; place = r.place }) live.attachments (each_found (attachment_at image) (λ (x : AttItem). x.entry) live.attachments reaches.attachments) alike.attachments in
+    record { reads = ap (att_item x.entry x.segment) d ∙ r.reads; id_is = r.id_is; sound = r.sound; place = r.place }) live.attachments (each_found (attachment_at image) (λ (x : AttItem). x.entry) live.attachments reaches.attachments) alike.attachments in
     let meta : AllByRecursion H (option_to_list live.metadata) = on_metadata live.metadata reaches.metadata alike.metadata in
     record {
-      tiles = All-weaken (λ (y : Lain Tile). F y.item × P (place_by (λ (x : Tile). extent x.segment) y)) _ (λ y h. (h.0.reads, h.0.id_is, h.0.place, h.1)) _
+      tiles = All-weaken (λ (y : Lain Tile). F y.item × P (place_by (λ (x : Tile). extent x.segment) y)) _ (λ y h. (h.0.reads, h.0.id_is, h.0.place, h.0.sound, h.1)) _
           (left_out_have (λ (x : Tile). extent x.segment) F P t.tiles live.tiles l.subblocks at.subblocks tiles out.tiles);
-      attachments = All-weaken (λ (y : Lain AttItem). G y.item × P (place_by (λ (x : AttItem). extent x.segment) y)) _ (λ y h. (h.0.reads, h.0.id_is, h.0.place, h.1)) _
+      attachments = All-weaken (λ (y : Lain AttItem). G y.item × P (place_by (λ (x : AttItem). extent x.segment) y)) _ (λ y h. (h.0.reads, h.0.id_is, h.0.place, h.0.sound, h.1)) _
           (left_out_have (λ (x : AttItem). extent x.segment) G P t.attachments live.attachments l.attachments at.attachments atts out.attachments);
-      metadata = All-weaken (λ (y : Lain MetaItem). H y.item × P (place_by (λ (x : MetaItem). extent x.segment) y)) _ (λ y h. (h.0.reads, h.0.id_is, h.1)) _
+      metadata = All-weaken (λ (y : Lain MetaItem). H y.item × P (place_by (λ (x : MetaItem). extent x.segment) y)) _ (λ y h. (h.0.reads, h.0.id_is, h.0.sound, h.1)) _
           (left_out_setting (λ (x : MetaItem). extent x.segment) H P t.metadata live.metadata l.metadata at.metadata meta out.metadata);
     }
   where
@@ -160,7 +161,7 @@ lies_held image other s s' live t reaches at alike out =
         let z : ℤ = live.header.metadata in
         let r : IsRead image metadata_id z meta_item (λ (x : MetaItem). x.segment) m =
         is_read image metadata_id z meta_item (λ (x : MetaItem). x.segment) m meta_item_own (metadata_read z (in_segment image metadata_id z meta_item) m found) in
-        (record { reads = ap (meta_item m.segment) d.0 ∙ r.reads; id_is = r.id_is; place = r.place }, tt)
+        (record { reads = ap (meta_item m.segment) d.0 ∙ r.reads; id_is = r.id_is; sound = r.sound; place = r.place }, tt)
 
 pub edits_bring_back : (image other : List ℕ) (s s' : State) (live : Live) (t : Turn) (pieces : List Piece) (returns : List Return) → LiesLoosely image live s → IsTidy s
     → after_effect s (effect_of other t) ≡ Ok s' → SpansAt s'.layout (turned t live) → Writes image other t live s.layout s'.layout pieces

@@ -25,7 +25,8 @@ use Rattle.czi_machine.proofs.AnyCommand.{all_spans, any_commanded}
 use Rattle.czi_machine.proofs.Clear.{HeaderAt, header_at_front, turned_cover}
 use Rattle.czi_machine.proofs.Command.{Written, was_written, commanded}
 use Rattle.czi_machine.proofs.Cover.{between_in, between_high}
-use Rattle.czi_machine.proofs.Led.{stays_tidy}
+use Rattle.czi_machine.proofs.Follow.{spans_lie}
+use Rattle.czi_machine.proofs.Led.{stays_sound, stays_tidy}
 use Rattle.czi_machine.proofs.NewDirectory.{directory_read, attdir_read}
 use Rattle.czi_machine.proofs.NewItems.{subblock_read, attachment_read, metadata_read}
 use Rattle.czi_machine.proofs.NewSegment.{written_stands, held_stands, held_subblock, held_attachment, held_metadata}
@@ -205,22 +206,28 @@ reads_plan image other l l' live e t pieces plan wrote long places =
       },
     )
 
-pub planned_anywhere : (image other : List ℕ) (s s' : State) (live : Live) (e : DocumentEffect) (t : Turn) (pieces : List Piece) → LiesLoosely image live s → IsTidy s → Leads s s'
-    → SpansAt s'.layout (turned t live) → s'.document ≡ after e s.document → Plans image s.layout s'.layout live e t pieces
-    → Wrote image other pieces → length other ≡ s'.layout.length → (effect_of other t ≡ e) × LiesLoosely other (turned t live) s'
-planned_anywhere image other s s' live e t pieces lies is leads at document_is plan wrote long =
-    let is' : IsTidy s' = stays_tidy s s' is leads in
+pub plan_writes : (image other : List ℕ) (s s' : State) (live : Live) (e : DocumentEffect) (t : Turn) (pieces : List Piece) → LiesLoosely image live s → IsTidy s'
+    → SpansAt s'.layout (turned t live) → Plans image s.layout s'.layout live e t pieces
+    → Wrote image other pieces → length other ≡ s'.layout.length → (effect_of other t ≡ e) × Writes image other t live s.layout s'.layout pieces
+plan_writes image other s s' live e t pieces lies is' at plan wrote long =
     let front : HeaderAt image live.header.segment = header_at_front image live lies.reaches in
     let spans : live_spans s'.layout ≡ map extent (segments (turned t live)) = all_spans s'.layout (turned t live) at in
     let places : AllByRecursion (HasPlace (length other)) (new_segments t) = new_places (length other) s'.layout.length live t front.place front.large
     (λ p. omega (arith, is'.once p, ap (λ z. cover z p) spans)) (λ p h. omega (arith, is'.inside p h, ap (λ z. cover z p) spans)) long in
-    let read = reads_plan image other s.layout s'.layout live e t pieces plan wrote long places in
+    reads_plan image other s.layout s'.layout live e t pieces plan wrote long places
+
+pub planned_anywhere : (image other : List ℕ) (s s' : State) (live : Live) (e : DocumentEffect) (t : Turn) (pieces : List Piece) → LiesLoosely image live s → IsTidy s → Leads s s'
+    → SpansAt s'.layout (turned t live) → s'.document ≡ after e s.document → Plans image s.layout s'.layout live e t pieces
+    → Wrote image other pieces → length other ≡ s'.layout.length → (effect_of other t ≡ e) × LiesLoosely other (turned t live) s'
+planned_anywhere image other s s' live e t pieces lies is leads at document_is plan wrote long =
+    let read = plan_writes image other s s' live e t pieces lies (stays_tidy s s' is leads) at plan wrote long in
     (read.0, any_commanded image other s s' live t pieces lies is leads at (document_is ∙ ap (λ z. after z s.document) (sym read.0)) read.1)
 
 pub planned : (image other : List ℕ) (s s' : State) (live : Live) (e : DocumentEffect) (t : Turn) (pieces : List Piece) → Lies image live s → IsSound s → Leads s s'
-    → LiesAt s'.layout (turned t live) → s'.document ≡ after e s.document → Plans image s.layout s'.layout live e t pieces
+    → SpansAt s'.layout (turned t live) → s'.document ≡ after e s.document → Plans image s.layout s'.layout live e t pieces
     → Wrote image other pieces → length other ≡ s'.layout.length → (effect_of other t ≡ e) × Lies other (turned t live) s'
-planned image other s s' live e t pieces lies is leads at document_is plan wrote long =
+planned image other s s' live e t pieces lies is leads spans document_is plan wrote long =
+    let at : LiesAt s'.layout (turned t live) = spans_lie s'.layout (turned t live) (stays_sound s s' is leads).layout spans in
     let k : Written image other live s s' t pieces = was_written image other s s' live t pieces lies is leads at in
     let front : HeaderAt image live.header.segment = header_at_front image live lies.reaches in
     let places : AllByRecursion (HasPlace (length other)) (new_segments t) = new_places (length other) s'.layout.length live t front.place front.large

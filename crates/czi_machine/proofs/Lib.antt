@@ -46,3 +46,6 @@ pub mod Composed
 pub mod Repacked
 pub mod EachStep
 pub mod FromPlan
+pub mod Follow
+pub mod StepLaws
+pub mod OneOfThem

@@ -41,7 +41,7 @@ use Rattle.czi_machine.proofs.TableUndo.{subblocks_undone_row}
 use Rattle.czi_machine.proofs.Tiled.{All-map, All-weaken, between_one}
 
 -- the changes of a removal and of its undo
-changes_out : (X : Type 0) (i n : ℕ) → i < n → (let c : List (Act X) = out i in changes c n) ≡ true
+pub changes_out : (X : Type 0) (i n : ℕ) → i < n → (let c : List (Act X) = out i in changes c n) ≡ true
 changes_out X zero zero h = absurd (omega arith)
 changes_out X zero (suc n) h = refl
 changes_out X (suc i) zero h = absurd (omega arith)
@@ -68,11 +68,11 @@ pub mapped_into : {X Y : Type 0} (f : X → Y) (i : ℕ) (x : X) → mapped f (i
 mapped_into f zero x = refl
 mapped_into f (suc i) x = ap (λ c. keep ∷ c) (mapped_into f i x)
 
-fit_out : {X : Type 0} (l : Layout) (space : Space) (need : X → ℕ) (i : ℕ) → fit_brought l space need (out i) ≡ Ok (record { places = out i; back = []; used = []; space = space })
+pub fit_out : {X : Type 0} (l : Layout) (space : Space) (need : X → ℕ) (i : ℕ) → fit_brought l space need (out i) ≡ Ok (record { places = out i; back = []; used = []; space = space })
 fit_out l space need zero = refl
 fit_out l space need (suc i) = rw (fit_out l space need i)
 
-fit_at : (space : Space) (need at : ℕ) → place_for space need ≡ Ok at → fit space need ≡ Ok (record { span = record { at = at; len = need }; space = use_span space (record { at = at; len = need }) })
+pub fit_at : (space : Space) (need at : ℕ) → place_for space need ≡ Ok at → fit space need ≡ Ok (record { span = record { at = at; len = need }; space = use_span space (record { at = at; len = need }) })
 fit_at space need at e = rw e
 
 pub length-mapped : {X Y : Type 0} (f : X → Y) (xs : List X) → length (map f xs) ≡ length xs

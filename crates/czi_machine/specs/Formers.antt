@@ -1,5 +1,5 @@
 -- The former documents, as an undo list keeps them: by what brings each of them back from the next newer one.
-use Rattle.std.specs.Prelude.{◌≡◌, ⊤, ℕ, pos, List, [], ◌∷◌, take, Bool, Option, Some, None, Ok, IsFalse, option_to_list}
+use Rattle.std.specs.Prelude.{◌≡◌, ⊤, ℕ, ◌≤◌, pos, List, [], ◌∷◌, take, Bool, Option, Some, None, Ok, IsFalse, option_to_list}
 use Rattle.std.specs.List.{AllByRecursion, list_any}
 use Rattle.czi_format.specs.Layout.{Place, Layout}
 use Rattle.czi_format.specs.Live.{Live, Tile, tile, AttItem, att_item, MetaItem, meta_item, subblock_of, attachment_of, metadata_of}
@@ -58,11 +58,11 @@ brought_back image r newer = record { document = after (return_effect image r) n
 -- What it brings is read in the image's bytes behind a header's place, and isn't among the newer items.
 pub record LiesHeld (image : List ℕ) (newer : Items) (r : Return) : Type 0 where
   pub tiles : AllByRecursion (λ (y : Lain Tile). (tile y.item.entry y.item.segment (data_of image y.item.segment) ≡ Some y.item)
-      × (y.item.segment.id ≡ subblock_id) × (y.item.entry.position ≡ pos y.item.segment.at) × IsFalse (list_any (same_span (extent y.item.segment)) (item_spans newer))) (brought r.tiles)
+      × (y.item.segment.id ≡ subblock_id) × (y.item.entry.position ≡ pos y.item.segment.at) × (y.item.segment.used ≤ y.item.segment.allocated) × IsFalse (list_any (same_span (extent y.item.segment)) (item_spans newer))) (brought r.tiles)
   pub attachments : AllByRecursion (λ (y : Lain AttItem). (att_item y.item.entry y.item.segment (data_of image y.item.segment) ≡ Some y.item)
-      × (y.item.segment.id ≡ attachment_id) × (y.item.entry.position ≡ pos y.item.segment.at) × IsFalse (list_any (same_span (extent y.item.segment)) (item_spans newer))) (brought r.attachments)
+      × (y.item.segment.id ≡ attachment_id) × (y.item.entry.position ≡ pos y.item.segment.at) × (y.item.segment.used ≤ y.item.segment.allocated) × IsFalse (list_any (same_span (extent y.item.segment)) (item_spans newer))) (brought r.attachments)
   pub metadata : AllByRecursion (λ (y : Lain MetaItem). (meta_item y.item.segment (data_of image y.item.segment) ≡ Some y.item)
-      × (y.item.segment.id ≡ metadata_id) × IsFalse (list_any (same_span (extent y.item.segment)) (item_spans newer))) (option_to_list (set_new r.metadata))
+      × (y.item.segment.id ≡ metadata_id) × (y.item.segment.used ≤ y.item.segment.allocated) × IsFalse (list_any (same_span (extent y.item.segment)) (item_spans newer))) (option_to_list (set_new r.metadata))
 
 -- These bring back these formers, newest first, from a newer document on.
 abbrev pub BringBack : List ℕ → Former → List Return → List Former → Type 0

@@ -21,3 +21,6 @@ pub mod Removal
 pub mod Formers
 pub mod Laws
 pub mod Planned
+pub mod Fits
+pub mod Kept
+pub mod Instance

@@ -13,7 +13,7 @@ use Rattle.czi_machine.specs.Laws.{Lies, LiesLoosely, Leads}
 use Rattle.czi_machine.specs.Puts.{PutsSegment, PutsHeader, IsSubblock, IsAttachment, IsMetadata}
 use Rattle.czi_machine.specs.Sound.{IsTidy, IsSound}
 use Rattle.czi_machine.specs.State.{State}
-use Rattle.czi_machine.specs.Turn.{Turn, turned, effect_of, LiesAt, SpansAt}
+use Rattle.czi_machine.specs.Turn.{Turn, turned, effect_of, SpansAt}
 use Rattle.czi_machine.specs.Writes.{WritesAround}
 use Rattle.czi_machine.specs.Written.{Piece, Wrote}
 
@@ -144,7 +144,7 @@ pub record Plans (image : List ℕ) (l l' : Layout) (live : Live) (e : DocumentE
 -- layout, and is steady.
 abbrev pub Planned : Type 0
 Planned = (image other : List ℕ) (s s' : State) (live : Live) (e : DocumentEffect) (t : Turn) (pieces : List Piece) → Lies image live s → IsSound s → Leads s s'
-    → LiesAt s'.layout (turned t live) → s'.document ≡ after e s.document → Plans image s.layout s'.layout live e t pieces
+    → SpansAt s'.layout (turned t live) → s'.document ≡ after e s.document → Plans image s.layout s'.layout live e t pieces
     → Wrote image other pieces → length other ≡ s'.layout.length → (effect_of other t ≡ e) × Lies other (turned t live) s'
 
 -- the same of any image

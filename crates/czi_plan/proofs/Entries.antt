@@ -1,17 +1,16 @@
 -- Entries that are written one behind another.
-use Rattle.std.proofs.Common.{◌≡◌, ℕ, zero, suc, ◌+◌, ◌-◌, ◌<◌, ◌≤◌, pos, List, [], ◌∷◌, ◌++◌, map, take, drop, get_or, length, sum, replicate, refl, ap, sym, ◌∙◌, arith, append-nil, length-append}
-use Rattle.std.specs.List.{flat_map}
+use Rattle.std.proofs.Common.{◌≡◌, ℕ, ◌+◌, ◌-◌, ◌<◌, ◌≤◌, pos, List, [], ◌∷◌, ◌++◌, map, take, drop, get_or, length, sum, replicate, ap, sym, ◌∙◌, subst, arith, append-nil, length-append}
+use Rattle.std.specs.List.{AllByRecursion, flat_map}
 use Rattle.std.proofs.Math.Seq.{take-append_seam, drop-append_seam}
 use Rattle.std.proofs.lemmas.List.Sums.{sum_by-append, sum_by-cons}
 use Rattle.std.proofs.lemmas.List.{drop-drop, drop-replicate, length-replicate, length-take-le}
 use Rattle.czi_format.specs.Bytes.{i32_bytes, put_at}
 use Rattle.czi_format.specs.Contents.{directory_head}
-use Rattle.czi_format.specs.Entry.{Entry, entry_len, entry_bytes}
+use Rattle.czi_format.specs.Entry.{Entry, IsEntry, entry_len, entry_bytes}
 use Rattle.czi_image.specs.View.{tile_of}
 use Rattle.czi_image.specs.declared.types.Tile.{Tile}
-use Rattle.czi_machine.specs.Data.{directory_data}
 use Rattle.czi_plan.specs.Directory.{entries_of, directory_size, data_in}
-use Rattle.czi_plan.proofs.Lists.{drop_here, take_here, assoc, map_append, flat_append, take_end, drop_end}
+use Rattle.czi_plan.proofs.Lists.{drop_here, take_here, assoc, map_append, flat_append, drop_end, all_append}
 
 pub entries_here : (tiles : List Tile) (i : ℕ) (t : Tile) → i < length tiles → t ≡ get_or tiles i t → entries_of (drop i tiles) ≡ entries_of (t ∷ drop (i + 1) tiles)
 entries_here tiles i t h e = ap entries_of (drop_here tiles i t h e)
@@ -92,3 +91,7 @@ pub size_of_both : (es fs : List Entry) → directory_size (es ++ fs) ≡ 128 + 
 size_of_both es fs =
     let both : sum (map entry_len (es ++ fs)) ≡ sum (map entry_len es) + sum (map entry_len fs) = ap sum (map_append entry_len es fs) ∙ sum_by-append (λ n. n) (map entry_len es) (map entry_len fs) in
     omega (arith, both)
+
+pub all_here : (tiles : List Tile) (i : ℕ) (t : Tile) → i < length tiles → t ≡ get_or tiles i t → AllByRecursion IsEntry (entries_of (take i tiles)) → IsEntry (tile_of t).entry → AllByRecursion IsEntry (entries_of (take (i + 1) tiles))
+all_here tiles i t h e all one =
+    subst (AllByRecursion IsEntry) (sym (ap entries_of (take_here tiles i t h e) ∙ map_append (λ (z : Tile). (tile_of z).entry) (take i tiles) (t ∷ []))) (all_append IsEntry (entries_of (take i tiles)) (entries_of (t ∷ [])) all (one, tt))

@@ -1,15 +1,15 @@
 -- Extents that are searched, used and freed.
-use Rattle.std.proofs.Common.{◌≡◌, ◌⊎◌, ℕ, zero, suc, ◌+◌, ◌-◌, ◌<◌, ◌≤◌, List, [], ◌∷◌, ◌++◌, map, drop, length, get_or, Bool, true, false, ◌&&◌, ◌==◌, nat_lt, max, min, refl, ap, sym, ◌∙◌, subst, arith, inl, inr}
-use Rattle.std.specs.List.{AllByRecursion, flat_map, list_any}
-use Rattle.std.proofs.lemmas.Bool.{cases_Bool, cases_lt, ne_eqb, ltb-true, ltb-false, le-ltb}
+use Rattle.std.proofs.Common.{◌≡◌, ◌⊎◌, ℕ, zero, suc, ◌+◌, ◌<◌, ◌≤◌, List, [], ◌∷◌, ◌++◌, map, drop, length, get_or, Bool, true, false, ◌&&◌, ◌==◌, nat_lt, refl, ap, ◌∙◌, subst, arith, inl, inr}
+use Rattle.std.specs.List.{flat_map, list_any}
+use Rattle.std.proofs.lemmas.Bool.{cases_Bool, ne_eqb, ltb-true, ltb-false}
 use Rattle.std.proofs.lemmas.Bool.Decides.{nat_tests}
 use Rattle.czi_format.specs.Span.{Span, end_of, meets}
-use Rattle.czi_format.specs.Space.{same_span, without, left_of, with_freed, with_all_freed}
+use Rattle.czi_format.specs.Space.{same_span, without, left_of}
 use Rattle.czi_spans.specs.Apart.{AreApart}
 use Rattle.czi_spans.proofs.Apart.{apart_at, apart_two}
-use Rattle.czi_space.specs.State.{AreExtents, IsWhole, LiesInOne, MeetsNone}
+use Rattle.czi_space.specs.State.{AreExtents, IsWhole, LiesInOne}
 use Rattle.czi_space.proofs.Taken.{left_apart, miss}
-use Rattle.czi_plan.specs.Geometry.{AreUsed, AreFreed}
+use Rattle.czi_plan.specs.Geometry.{AreUsed}
 use Rattle.czi_plan.proofs.Lists.{drop_here}
 
 pub extents_apart : (from to : ℕ) (es : List Span) → AreExtents from to es → AreApart from es

@@ -1,11 +1,11 @@
 -- Where a need goes: into a run that lies in one extent, or past the length.
-use Rattle.std.proofs.Common.{◌≡◌, ◌⊎◌, ℕ, ◌+◌, ◌-◌, ◌%◌, ◌<◌, ◌≤◌, ◌^◌, List, [], ◌∷◌, ◌++◌, max, min, nat_le, nat_lt, true, false, Option, Some, None, Result, Ok, refl, ap, sym, ◌∙◌, subst, arith, inl, inr}
+use Rattle.std.proofs.Common.{◌≡◌, ℕ, ◌+◌, ◌-◌, ◌<◌, ◌≤◌, ◌^◌, List, [], ◌∷◌, max, min, nat_le, nat_lt, true, false, Option, Some, None, Result, Ok, refl, sym, subst, arith, inl, inr}
 use Rattle.std.specs.List.{AllByRecursion, find, flat_map}
 use Rattle.std.proofs.lemmas.Bool.{cases_Bool, cases_lt, ltb-true, lt-ltb, le-ltb, leb-true}
 use Rattle.czi_format.specs.Span.{Span, end_of, meets, round32}
 use Rattle.czi_format.specs.Space.{Space, Full, from_to, left_of, without, place_for, place_in, place_past, use_all, free_runs}
 use Rattle.czi_space.specs.State.{AreExtents, LiesInOne}
-use Rattle.czi_space.proofs.Found.{runs-use_all, length-use_all}
+use Rattle.czi_space.proofs.Found.{runs-use_all}
 use Rattle.czi_plan.proofs.Lists.{all_append}
 
 -- a part of a span that lies in one of the extents

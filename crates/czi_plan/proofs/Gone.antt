@@ -1,5 +1,5 @@
 -- What a removal leaves behind.
-use Rattle.std.proofs.Common.{◌≡◌, ℕ, zero, suc, ◌+◌, ◌<◌, ◌≤◌, List, [], ◌∷◌, ◌++◌, map, filter, take, drop, get_or, length, not, Option, Some, None, option_map, option_to_list, refl, ap, sym, ◌∙◌, arith}
+use Rattle.std.proofs.Common.{◌≡◌, ℕ, zero, suc, ◌<◌, List, [], ◌∷◌, ◌++◌, map, filter, get_or, length, not, Some, None, option_map, option_to_list, ap, sym, ◌∙◌, arith}
 use Rattle.std.proofs.lemmas.List.Elements.{filter-append}
 use Rattle.czi_format.specs.Layout.{Place}
 use Rattle.czi_format.specs.Span.{Span}
@@ -8,7 +8,7 @@ use Rattle.czi_image.specs.declared.index.Index.{Index}
 use Rattle.czi_image.specs.declared.types.DirItem.{DirItem}
 use Rattle.czi_image.specs.declared.types.Tile.{Tile}
 use Rattle.czi_format.specs.Live.{Tile as FormatTile}
-use Rattle.czi_machine.specs.Change.{out, omitted, changed}
+use Rattle.czi_machine.specs.Change.{out, omitted}
 use Rattle.czi_machine.specs.Places.{can_be_used}
 use Rattle.czi_plan.specs.Removal.{removed_places, freed_of, dead_of}
 use Rattle.czi_plan.proofs.Lists.{assoc, map_append}

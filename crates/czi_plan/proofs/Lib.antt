@@ -11,3 +11,4 @@ pub mod Removed
 pub mod Placed
 pub mod Planned
 pub mod Whole
+pub mod Read

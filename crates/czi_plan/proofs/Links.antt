@@ -1,11 +1,9 @@
 -- Headers that are pushed as links.
-use Rattle.std.proofs.Common.{◌≡◌, ℕ, ◌+◌, ◌-◌, ◌*◌, ◌<◌, ◌≤◌, List, [], ◌∷◌, ◌++◌, map, take, drop, get_or, length, refl, ap, sym, ◌∙◌, arith, subst}
+use Rattle.std.proofs.Common.{◌≡◌, ℕ, ◌+◌, ◌<◌, ◌≤◌, List, [], ◌∷◌, ◌++◌, map, take, drop, get_or, length, refl, ap, sym, ◌∙◌, arith, subst}
 use Rattle.std.specs.List.{AllByRecursion}
-use Rattle.czi_format.specs.Span.{Span, end_of}
 use Rattle.czi_links.specs.Record.{Bytes, next_place, end_of as link_end}
 use Rattle.czi_machine.specs.Cover.{Chained}
 use Rattle.czi_machine.proofs.Keeps.{chained_from}
-use Rattle.czi_seg.specs.declared.header.SegHeader.{SegHeader}
 use Rattle.czi_spans.specs.Apart.{first_of}
 use Rattle.czi_plan.specs.Steps.{Head, IsHead, head_link}
 use Rattle.czi_plan.proofs.Lists.{drop_here, take_here, assoc, map_append}

@@ -1,5 +1,5 @@
 -- Steps of loops over lists.
-use Rattle.std.proofs.Common.{◌≡◌, ℕ, zero, suc, ◌+◌, ◌<◌, ◌≤◌, List, [], ◌∷◌, ◌++◌, map, take, drop, get_or, length, refl, ap, sym, ◌∙◌, arith, append-nil}
+use Rattle.std.proofs.Common.{◌≡◌, ℕ, zero, suc, ◌+◌, ◌<◌, ◌≤◌, List, [], ◌∷◌, ◌++◌, map, take, drop, get_or, length, refl, ap, sym, ◌∙◌, arith}
 use Rattle.std.specs.List.{AllByRecursion, flat_map}
 use Rattle.std.proofs.Math.Numerals.{add-one}
 use Rattle.std.proofs.Math.Seq.{drop-cons, take-suc}
@@ -60,3 +60,8 @@ pub all_at : {X Y : Type 0} (f : X → Y) (P : Y → Type 0) (xs : List X) (i : 
 all_at f P [] i x a h = absurd (omega arith)
 all_at f P (y ∷ ys) zero x a h = a.0
 all_at f P (y ∷ ys) (suc i) x a h = all_at f P ys i x a.1 (omega arith)
+
+pub all_get : {X : Type 0} (P : X → Type 0) (xs : List X) (i : ℕ) (x : X) → AllByRecursion P xs → i < length xs → P (get_or xs i x)
+all_get P [] i x a h = absurd (omega arith)
+all_get P (y ∷ ys) zero x a h = a.0
+all_get P (y ∷ ys) (suc i) x a h = all_get P ys i x a.1 (omega arith)

@@ -1,22 +1,21 @@
 -- Headers in order of place.
-use Rattle.std.proofs.Common.{◌≡◌, ◌⊎◌, ℕ, ◌+◌, ◌-◌, ◌<◌, ◌≤◌, ◌^◌, List, [], ◌∷◌, ◌++◌, map, filter, length, take, drop, Bool, true, false, not, ◌&&◌, ◌||◌, ◌==◌, nat_lt, nat_le, refl, ap, sym, ◌∙◌, subst, arith, inl, inr, append-nil, if◌then◌else◌}
+use Rattle.std.proofs.Common.{◌≡◌, ◌⊎◌, ℕ, ◌+◌, ◌<◌, ◌≤◌, ◌^◌, List, [], ◌∷◌, ◌++◌, map, filter, length, take, drop, Bool, true, false, not, refl, ap, sym, ◌∙◌, subst, arith, inl, inr, append-nil}
 use Rattle.std.specs.List.{AllByRecursion}
 use Rattle.std.specs.List.Sorted.{IsPermutation}
-use Rattle.std.proofs.lemmas.Bool.{cases_Bool, cases_lt, ltb-true, ltb-false}
+use Rattle.std.proofs.lemmas.Bool.{cases_Bool, cases_lt}
 use Rattle.std.proofs.lemmas.Bool.Decides.{nat_tests}
 use Rattle.czi_format.specs.Segment.{deleted_id}
 use Rattle.czi_format.specs.Span.{Span, end_of, span_le, inserted, sorted}
 use Rattle.czi_format.specs.Space.{deleted_after}
 use Rattle.czi_machine.specs.Cover.{between, cover, Chained}
-use Rattle.czi_machine.proofs.Cover.{between_in, between_low, between_high, cover-append, cover-sorted}
-use Rattle.czi_machine.proofs.Keeps.{chained_from}
+use Rattle.czi_machine.proofs.Cover.{between_in, cover-append, cover-sorted}
 use Rattle.czi_num.specs.Span.{span_of}
 use Rattle.czi_num.specs.declared.span.Span.{Span as CodeSpan}
 use Rattle.czi_spans.specs.Apart.{first_of}
 use Rattle.czi_spans.proofs.Sorting.{all_moved, all_sorted}
 use Rattle.czi_plan.specs.Geometry.{IsLong, AreParts}
 use Rattle.czi_plan.specs.Steps.{Head, IsHead, AreHeads, deleted_head, is_new}
-use Rattle.czi_plan.proofs.Lists.{all_append, all_split, all_weaken, all_map, all_unmap, map_append, take_end, drop_end}
+use Rattle.czi_plan.proofs.Lists.{all_append, all_weaken, all_map, all_unmap, map_append, take_end, drop_end}
 
 -- two spans without a place in common stand one behind the other
 pub in_order_two : (s x : Span) → 0 < s.len → 0 < x.len → ((p : ℕ) → between s.at (end_of s) p + between x.at (end_of x) p ≤ 1) → (end_of s ≤ x.at) ⊎ (end_of x ≤ s.at)

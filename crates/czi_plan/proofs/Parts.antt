@@ -1,27 +1,25 @@
 -- The spans of a removal among the extents of its map.
-use Rattle.std.proofs.Common.{◌≡◌, ◌⊎◌, ℕ, ◌+◌, ◌-◌, ◌%◌, ◌<◌, ◌≤◌, ◌^◌, List, [], ◌∷◌, ◌++◌, map, filter, length, get_or, max, min, Bool, true, false, not, ◌&&◌, Option, Some, None, option_map, option_to_list, Result, Ok, refl, ap, sym, ◌∙◌, subst, arith, inl, inr}
-use Rattle.std.specs.List.{AllByRecursion, find, list_any, flat_map}
+use Rattle.std.proofs.Common.{◌≡◌, ◌⊎◌, ℕ, ◌+◌, ◌-◌, ◌%◌, ◌<◌, ◌≤◌, ◌^◌, List, [], ◌∷◌, map, filter, max, min, Bool, true, false, not, Result, Ok, refl, subst, arith, inl, inr}
+use Rattle.std.specs.List.{AllByRecursion, list_any}
 use Rattle.std.proofs.lemmas.Bool.{cases_Bool, cases_lt, ltb-true, ltb-false, and_parts}
 use Rattle.czi_format.specs.Layout.{Place}
-use Rattle.czi_format.specs.Span.{Span, end_of, meets, is_aligned, AreDisjoint, span_le, sorted, round32}
+use Rattle.czi_format.specs.Span.{Span, end_of, meets, is_aligned, AreDisjoint, span_le, sorted}
 use Rattle.czi_format.specs.Space.{Space, Fit, Full, fit, place_for, use_span, without, with_freed, free_runs, deleted_after}
 use Rattle.czi_format.proofs.Rules.{on_ok}
 use Rattle.czi_machine.specs.Cover.{between, cover, IsWhole}
 use Rattle.czi_machine.specs.Holes.{holes, interior}
 use Rattle.czi_machine.specs.Places.{can_be_used}
 use Rattle.czi_machine.specs.State.{spans_of}
-use Rattle.czi_machine.proofs.Cover.{between_in, between_low, between_high, without_in, without_out, without_none, cover-append, cover-sorted, cover-with_freed, cover-deleted_after}
+use Rattle.czi_machine.proofs.Cover.{between_in, between_low, between_high, without_in, without_out, without_none, cover-sorted, cover-with_freed, cover-deleted_after}
 use Rattle.czi_machine.proofs.Keeps.{aligned_whole, without_whole, deleted_after_whole}
 use Rattle.czi_machine.proofs.Leaving.{cover-split}
-use Rattle.czi_machine.proofs.Tiled.{between_one}
 use Rattle.czi_space.specs.State.{AreExtents, IsWhole as IsWholeExtent, LiesInOne, MeetsNone}
 use Rattle.czi_spans.specs.Apart.{AreApart}
 use Rattle.czi_spans.proofs.Sorting.{all_sorted}
-use Rattle.czi_image.specs.Spans.{AreFree}
-use Rattle.czi_plan.specs.Geometry.{AreUsed, AreFreed, IsLong, AreParts}
+use Rattle.czi_plan.specs.Geometry.{AreFreed, IsLong, AreParts}
 use Rattle.czi_plan.specs.Removal.{freed_of, dead_of}
-use Rattle.czi_plan.proofs.Fits.{Placed, in_run, past, placed, found_all, left_in_one, in_one_ends}
-use Rattle.czi_plan.proofs.Lists.{all_append, all_weaken, all_map}
+use Rattle.czi_plan.proofs.Fits.{in_run, past, placed, found_all, left_in_one}
+use Rattle.czi_plan.proofs.Lists.{all_weaken, all_map}
 use Rattle.czi_plan.proofs.Order.{all_filter}
 
 pub to_whole : (s : Span) → IsWholeExtent s → IsWhole s

@@ -1,29 +1,24 @@
 -- What the pieces of a plan put, and what they leave alone.
-use Rattle.std.proofs.Common.{◌≡◌, ◌⊎◌, ℕ, ◌+◌, ◌-◌, ◌<◌, ◌≤◌, ◌^◌, pos, List, [], ◌∷◌, ◌++◌, map, filter, length, get_or, max, Bool, true, false, not, ◌&&◌, nat_le, nat_lt, Option, Some, None, refl, ap, sym, ◌∙◌, subst, arith, inl, inr, if◌then◌else◌}
-use Rattle.std.specs.List.{AllByRecursion, list_any}
-use Rattle.std.specs.List.Sorted.{IsPermutation}
-use Rattle.std.specs.Option.{option_or}
+use Rattle.std.proofs.Common.{◌≡◌, ◌⊎◌, ℕ, ◌+◌, ◌-◌, ◌<◌, ◌≤◌, pos, List, [], ◌∷◌, ◌++◌, map, filter, length, get_or, Bool, true, false, nat_le, nat_lt, Some, None, refl, ap, sym, ◌∙◌, subst, arith, inl, inr}
+use Rattle.std.specs.List.{AllByRecursion}
 use Rattle.std.proofs.lemmas.Bool.{cases_Bool, cases_lt, le-leb, lt-ltb, le-ltb, lt-leb}
 use Rattle.std.proofs.lemmas.List.Sorted.{IsPermutation-sym}
 use Rattle.czi_format.specs.Bytes.{i64_bytes}
 use Rattle.czi_format.specs.Segment.{header_bytes}
-use Rattle.czi_format.specs.Span.{Span, end_of}
-use Rattle.czi_format.specs.Space.{same_span, deleted_after}
+use Rattle.czi_format.specs.Span.{Span}
 use Rattle.czi_machine.specs.Cover.{between, cover, Chained}
-use Rattle.czi_machine.specs.Writes.{head, deleted_segment, PutsDeleted}
-use Rattle.czi_machine.specs.Written.{Piece, own_byte, byte_of, Puts, IsClear}
-use Rattle.czi_machine.proofs.Cover.{between_in, between_low, between_high, cover-append}
+use Rattle.czi_machine.specs.Writes.{head}
+use Rattle.czi_machine.specs.Written.{Piece, own_byte, byte_of, Puts}
+use Rattle.czi_machine.proofs.Cover.{between_in}
 use Rattle.czi_machine.proofs.NewSegment.{header_length}
 use Rattle.czi_num.specs.Span.{span_of}
 use Rattle.czi_num.specs.declared.span.Span.{Span as CodeSpan}
 use Rattle.czi_seg.specs.View.{header_of}
 use Rattle.czi_spans.specs.Apart.{first_of}
 use Rattle.czi_spans.proofs.Sorting.{all_moved}
-use Rattle.czi_plan.specs.Geometry.{IsLong, AreParts}
 use Rattle.czi_plan.specs.Pieces.{links_as}
 use Rattle.czi_plan.specs.Steps.{Head, IsHead, AreHeads, deleted_head, head_link, pointer_link, is_new}
 use Rattle.czi_plan.proofs.Lists.{all_append, all_split, all_weaken, all_map, all_unmap}
-use Rattle.czi_plan.proofs.Order.{Ordered, all_filter, cover-filter}
 
 own_none : (p : Piece) (q : ℕ) → (q < p.place) ⊎ (p.place + length p.bytes ≤ q) → own_byte p q ≡ None
 own_none p q (inl h) = let test : nat_le p.place q ≡ false = lt-leb p.place q h in rw test

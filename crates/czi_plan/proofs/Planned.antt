@@ -1,36 +1,35 @@
 -- The plan of a removal, from its steps.
-use Rattle.std.proofs.Common.{◌≡◌, ◌⊎◌, ℕ, zero, suc, ◌+◌, ◌-◌, ◌%◌, ◌<◌, ◌≤◌, ◌^◌, pos, List, [], ◌∷◌, ◌++◌, map, filter, take, drop, length, get_or, max, Bool, true, false, not, Option, Some, None, Result, Ok, refl, ap, sym, ◌∙◌, subst, arith, inl, inr, length-drop}
-use Rattle.std.specs.List.{AllByRecursion, All, list_any}
+use Rattle.std.proofs.Common.{◌≡◌, ◌⊎◌, ℕ, zero, suc, ◌+◌, ◌-◌, ◌<◌, ◌≤◌, ◌^◌, pos, List, [], ◌∷◌, ◌++◌, map, filter, take, drop, length, true, not, Some, None, refl, ap, sym, ◌∙◌, subst, arith, inl, inr, length-drop}
+use Rattle.std.specs.List.{AllByRecursion, list_any}
 use Rattle.std.proofs.Math.Numerals.{add-one}
 use Rattle.std.proofs.lemmas.Bool.{cases_Bool, cases_lt}
 use Rattle.std.proofs.lemmas.List.Elements.{All-from_recursion}
 use Rattle.czi_format.specs.Bytes.{i64_bytes}
 use Rattle.czi_format.specs.Entry.{Entry}
-use Rattle.czi_format.specs.Live.{Tile, Directory}
-use Rattle.czi_format.specs.Segment.{Segment, extent, header_bytes, directory_id}
-use Rattle.czi_format.specs.Span.{Span, end_of, round32}
-use Rattle.czi_format.specs.Space.{Space, fit, use_span, place_for, same_span, deleted_after}
+use Rattle.czi_format.specs.Live.{Tile}
+use Rattle.czi_format.specs.Segment.{Segment, extent, header_bytes}
+use Rattle.czi_format.specs.Span.{Span, round32}
+use Rattle.czi_format.specs.Space.{same_span, deleted_after}
 use Rattle.czi_image.specs.View.{tile_of}
 use Rattle.czi_image.specs.declared.types.Tile.{Tile as CodeTile}
 use Rattle.czi_links.specs.Record.{Bytes, EndWithin, end_of as link_end}
-use Rattle.czi_machine.specs.Change.{out, changed, brought, past}
+use Rattle.czi_machine.specs.Change.{out, brought}
 use Rattle.czi_machine.specs.Cover.{between, cover}
 use Rattle.czi_machine.specs.Puts.{PutsSegment}
-use Rattle.czi_machine.specs.Turn.{Turn, new_segments}
-use Rattle.czi_machine.specs.Writes.{head, deleted_segment, PutsDeleted, WritesIn, writable}
-use Rattle.czi_machine.specs.Written.{Piece, byte_of, Puts, IsClear}
-use Rattle.czi_machine.proofs.Cover.{between_in, between_low, between_high, cover-append}
+use Rattle.czi_machine.specs.Turn.{new_segments}
+use Rattle.czi_machine.specs.Writes.{head, deleted_segment, PutsDeleted, writable}
+use Rattle.czi_machine.specs.Written.{Piece, byte_of, Puts}
+use Rattle.czi_machine.proofs.Cover.{between_in, cover-append}
 use Rattle.czi_num.specs.Span.{span_of}
 use Rattle.czi_num.specs.declared.span.Span.{Span as CodeSpan}
 use Rattle.czi_seg.specs.View.{header_of}
-use Rattle.czi_spans.specs.Apart.{first_of}
 use Rattle.czi_plan.specs.Around.{PutsAround}
 use Rattle.czi_plan.specs.Directory.{entries_of, directory_at, directory_size, data_in}
 use Rattle.czi_plan.specs.Geometry.{IsLong, AreParts}
 use Rattle.czi_plan.specs.Removal.{entries_without, removal}
 use Rattle.czi_plan.specs.Steps.{Head, IsHead, AreHeads, directory_header, deleted_head, head_link, pointer_link, is_new}
-use Rattle.czi_plan.proofs.Lists.{all_append, all_split, all_weaken, all_map, all_unmap, take_end, map_append}
-use Rattle.czi_plan.proofs.Order.{Ordered, ordered, all_filter, cover-filter}
+use Rattle.czi_plan.proofs.Lists.{all_weaken, all_map, all_unmap, take_end, map_append}
+use Rattle.czi_plan.proofs.Order.{Ordered, all_filter, cover-filter}
 use Rattle.czi_plan.proofs.Placed.{Out, plan_pieces, plan_none, plan_data, plan_pointer, plan_heads, behind_out, span_out, spans_out, heads_out, in_order, out_of_order, filter_back, kept_covers, Covers}
 
 entries_again : (ts : List CodeTile) → entries_of ts ≡ map (λ (x : Tile). x.entry) (map tile_of ts)

@@ -1,10 +1,10 @@
 -- What a removal frees, in an index.
-use Rattle.std.proofs.Common.{◌≡◌, ℕ, zero, suc, ◌+◌, ◌-◌, ◌<◌, ◌≤◌, List, [], ◌∷◌, ◌++◌, map, length, get_or, Option, Some, None, option_map, option_to_list, refl, ap, sym, ◌∙◌, subst, arith}
+use Rattle.std.proofs.Common.{◌≡◌, ℕ, zero, suc, ◌<◌, ◌≤◌, List, [], ◌∷◌, ◌++◌, map, length, get_or, Option, Some, None, option_map, option_to_list, refl, ap, sym, ◌∙◌, subst, arith}
 use Rattle.std.specs.List.{AllByRecursion}
 use Rattle.czi_format.specs.Layout.{Place}
 use Rattle.czi_format.specs.Span.{Span, end_of}
 use Rattle.czi_image.specs.Holds.{tile_place, directory_place}
-use Rattle.czi_image.specs.Spans.{header_span, directory_span, tile_span, att_item_span, meta_item_span, live_spans, AreFree}
+use Rattle.czi_image.specs.Spans.{header_span, directory_span, tile_span, att_item_span, meta_item_span, live_spans}
 use Rattle.czi_image.specs.declared.index.Index.{Index}
 use Rattle.czi_image.specs.declared.types.DirItem.{DirItem}
 use Rattle.czi_image.specs.declared.types.Tile.{Tile}
@@ -16,7 +16,7 @@ use Rattle.czi_space.specs.State.{MapState, AreExtents}
 use Rattle.czi_plan.specs.Conditions.{IsMapOf, HasHeaders}
 use Rattle.czi_plan.specs.Removal.{removed_places}
 use Rattle.czi_plan.proofs.Gone.{removed_are}
-use Rattle.czi_plan.proofs.Lists.{all_split, map_append, all_at}
+use Rattle.czi_plan.proofs.Lists.{all_split, all_at}
 use Rattle.czi_plan.proofs.Parts.{AreGone, free_extents, free_once}
 
 cover_at : {X : Type 0} (f : X → Span) (xs : List X) (i : ℕ) (x : X) (p : ℕ) → i < length xs → x ≡ get_or xs i x → between (f x).at (end_of (f x)) p ≤ cover (map f xs) p

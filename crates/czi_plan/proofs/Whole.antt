@@ -1,23 +1,19 @@
 -- The plan of a removal is what its contract says.
-use Rattle.std.proofs.Common.{◌≡◌, ◌⊎◌, ℕ, zero, suc, ◌+◌, ◌-◌, ◌%◌, ◌<◌, ◌≤◌, ◌^◌, List, [], ◌∷◌, ◌++◌, map, take, drop, length, get_or, max, Option, Some, Result, Ok, refl, ap, sym, ◌∙◌, subst, arith}
+use Rattle.std.proofs.Common.{◌≡◌, ℕ, zero, suc, ◌+◌, ◌<◌, ◌≤◌, ◌^◌, List, [], ◌∷◌, ◌++◌, map, take, drop, length, get_or, max, Ok, refl, ap, sym, ◌∙◌, subst, arith}
 use Rattle.std.specs.List.{AllByRecursion}
 use Rattle.czi_format.specs.Entry.{Entry}
-use Rattle.czi_format.specs.Span.{Span, end_of, round32}
-use Rattle.czi_format.specs.Space.{Fit, fit, use_all, use_span, deleted_after}
+use Rattle.czi_format.specs.Span.{Span, round32}
+use Rattle.czi_format.specs.Space.{Space, fit, use_all, use_span, deleted_after}
 use Rattle.czi_image.specs.Spans.{header_span}
 use Rattle.czi_image.specs.declared.index.Index.{Index}
-use Rattle.czi_image.specs.declared.types.Tile.{Tile as CodeTile}
 use Rattle.czi_links.specs.Record.{EndWithin}
 use Rattle.czi_machine.specs.Cover.{IsWhole}
 use Rattle.czi_machine.specs.Puts.{PutsSegment}
-use Rattle.czi_machine.specs.Written.{Piece}
 use Rattle.czi_num.specs.Span.{span_of}
 use Rattle.czi_num.specs.declared.span.Span.{Span as CodeSpan}
 use Rattle.czi_region.specs.Pieces.{IsPiece, bytes_of, bytes_put}
 use Rattle.czi_region.specs.declared.block.Region.{Region}
 use Rattle.czi_region.specs.declared.block.Piece.{Piece as Range}
-use Rattle.czi_seg.specs.declared.id.SegId.TheVariants.{Directory}
-use Rattle.czi_seg.specs.View.{id_bytes}
 use Rattle.czi_format.specs.Segment.{directory_id}
 use Rattle.czi_space.specs.State.{MapState, space_of, IsWhole as IsWholeExtent}
 use Rattle.czi_plan.specs.Around.{PutsAround, LiesFree}
@@ -25,13 +21,13 @@ use Rattle.czi_plan.specs.Conditions.{IsEmpty, IsMapOf, HasHeaders}
 use Rattle.czi_plan.specs.Directory.{directory_at, directory_need, directory_size, data_in}
 use Rattle.czi_plan.specs.Geometry.{AreParts}
 use Rattle.czi_plan.specs.Pieces.{pieces_of, writes_in, links_as}
-use Rattle.czi_plan.specs.Removal.{Removes, removed_places, freed_of, dead_of, left_entries, removal}
-use Rattle.czi_plan.specs.Steps.{Head, IsHead, Stages, Linked, directory_header, head_link, pointer_link}
+use Rattle.czi_plan.specs.Removal.{Removes, removed_places, freed_of, dead_of, removal}
+use Rattle.czi_plan.specs.Steps.{Head, IsHead, Stages, Linked, directory_header}
 use Rattle.czi_plan.specs.declared.plan.EditPlan.{EditPlan}
 use Rattle.czi_plan.proofs.Lists.{all_weaken, take_end}
 use Rattle.czi_plan.proofs.Order.{ordered}
 use Rattle.czi_plan.proofs.Fits.{placed_ends}
-use Rattle.czi_plan.proofs.Parts.{IsUsed, used_place, used_free, fit_place, are_parts, to_whole, AreGone}
+use Rattle.czi_plan.proofs.Parts.{IsUsed, used_place, used_free, fit_place, are_parts, to_whole}
 use Rattle.czi_plan.proofs.Placed.{plan_pieces}
 use Rattle.czi_plan.proofs.Planned.{IsPlanned, segment_put, around, links_end}
 use Rattle.czi_plan.proofs.Removed.{are_gone, map_extents}
@@ -131,7 +127,11 @@ removes x m i es region old mid new h freed dead did =
       span = span_of h.0;
       space = use_span (space_of m) (span_of h.0);
       fits = did.fits;
+      far = parts.used_long.0.far;
+      inside = omega (arith, length_is);
       length = length_is;
+      small = omega (arith, parts.small, length_is);
+      entries = st.entries;
       used = ap (map span_of) (did.same_used ∙ used_are);
       freed = ap (map span_of) did.same_freed ∙ did.frees;
       segment = subst (λ ps. PutsSegment ps (directory_at h.0.at es).segment data') (sym pieces_are) (segment_put m.length top h es m.extents (freed_of (removed_places i x)) dead hs planned);
@@ -153,3 +153,6 @@ staged_as region es fs old new h is st = subst (λ l. Stages l region old new h)
 
 pub parts_as : (n top : ℕ) (u u' f f' d d' es : List Span) → u' ≡ u → f' ≡ f → d' ≡ d → AreParts n top u f d es → AreParts n top u' f' d' es
 parts_as n top u u' f f' d d' es a b c parts = subst (λ l. AreParts n top l f' d' es) (sym a) (subst (λ l. AreParts n top u l d' es) (sym b) (subst (λ l. AreParts n top u f l es) (sym c) parts))
+
+pub fit_size : (m : MapState) (es : List Entry) (s : Span) (space : Space) → fit (space_of m) (directory_need es) ≡ Ok (record { span = s; space = space }) → s.len ≡ directory_need es
+fit_size m es s space fits = (fit_place (space_of m) (directory_need es) (record { span = s; space = space }) fits).1

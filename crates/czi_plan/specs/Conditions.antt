@@ -1,5 +1,5 @@
 -- What a plan is made from.
-use Rattle.std.specs.Prelude.{◌≡◌, ℕ, ◌≤◌, List, [], map}
+use Rattle.std.specs.Prelude.{◌≡◌, ◌≤◌, [], map}
 use Rattle.std.specs.List.{AllByRecursion}
 use Rattle.std.specs.Option.{ForSome}
 use Rattle.czi_image.specs.declared.index.Index.{Index}

@@ -1,5 +1,5 @@
 -- Spans that are used and freed among the extents of a map.
-use Rattle.std.specs.Prelude.{◌≡◌, ◌⊎◌, ℕ, ◌+◌, ◌^◌, ◌≤◌, List, [], ◌∷◌, ◌++◌, ⊤}
+use Rattle.std.specs.Prelude.{◌⊎◌, ℕ, ◌+◌, ◌^◌, ◌≤◌, List, [], ◌∷◌, ⊤}
 use Rattle.std.specs.List.{AllByRecursion}
 use Rattle.czi_format.specs.Space.{without, with_freed, deleted_after}
 use Rattle.czi_format.specs.Span.{Span, end_of, span_le, sorted}

@@ -7,3 +7,4 @@ pub mod Removal
 pub mod Geometry
 pub mod Placing
 pub mod Steps
+pub mod Written

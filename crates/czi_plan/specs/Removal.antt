@@ -1,22 +1,20 @@
 -- The plan of a removal.
-use Rattle.std.specs.Prelude.{◌≡◌, ℕ, List, [], ◌∷◌, ◌++◌, map, filter, not, Option, Some, option_map, option_to_list, Result, Ok}
-use Rattle.std.specs.List.{AllByRecursion, slice_get}
-use Rattle.czi_format.specs.Entry.{Entry}
+use Rattle.std.specs.Prelude.{◌≡◌, ℕ, ◌≤◌, ◌^◌, List, [], ◌∷◌, ◌++◌, map, filter, not, Some, option_map, option_to_list, Ok}
+use Rattle.std.specs.List.{AllByRecursion}
+use Rattle.czi_format.specs.Entry.{Entry, IsEntry}
 use Rattle.czi_format.specs.Layout.{Place}
-use Rattle.czi_format.specs.Live.{Live, Tile}
+use Rattle.czi_format.specs.Live.{Tile}
 use Rattle.czi_format.specs.Space.{Space, fit, deleted_after}
-use Rattle.czi_format.specs.Span.{Span}
+use Rattle.czi_format.specs.Span.{Span, end_of}
 use Rattle.czi_image.specs.Holds.{tile_place, directory_place}
 use Rattle.czi_image.specs.View.{tile_of}
 use Rattle.czi_image.specs.declared.index.Index.{Index}
-use Rattle.czi_image.specs.declared.types.Tile.{Tile as CodeTile}
 use Rattle.czi_links.specs.Record.{EndWithin}
 use Rattle.czi_machine.specs.Change.{changed, omitted, out, same, to}
 use Rattle.czi_machine.specs.Places.{can_be_used}
 use Rattle.czi_machine.specs.Puts.{PutsSegment}
 use Rattle.czi_machine.specs.State.{spans_of}
 use Rattle.czi_machine.specs.Turn.{Turn}
-use Rattle.czi_machine.specs.Written.{Piece}
 use Rattle.czi_num.specs.Span.{span_of}
 use Rattle.czi_region.specs.Pieces.{IsPiece}
 use Rattle.czi_region.specs.declared.block.Piece.{Piece as Range}
@@ -56,7 +54,11 @@ pub record Removes (x : Index) (m : MapState) (i : ℕ) (es : List Entry) (regio
   pub span : Span
   pub space : Space
   pub fits : fit (space_of m) (directory_need es) ≡ Ok (record { span = span; space = space })
+  pub far : 112 ≤ span.at
+  pub inside : end_of span ≤ p.length
   pub length : p.length ≡ space.length
+  pub small : p.length ≤ 2 ^ 62
+  pub entries : AllByRecursion IsEntry es
   pub used : map span_of p.used.items ≡ span ∷ []
   pub freed : map span_of p.freed.items ≡ freed_of (removed_places i x)
   pub segment : PutsSegment (pieces_of region p) (directory_at span.at es).segment (data_in (round32 (directory_size es)) es)

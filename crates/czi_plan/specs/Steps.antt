@@ -1,9 +1,9 @@
 -- What the steps of a plan do.
 use Rattle.std.specs.Prelude.{◌≡◌, ℕ, ◌+◌, ◌-◌, ◌^◌, ◌≤◌, pos, List, [], ◌∷◌, ◌++◌, map, filter, length, Bool, not, max}
-use Rattle.std.specs.List.{list_any}
+use Rattle.std.specs.List.{AllByRecursion, list_any}
 use Rattle.std.specs.List.Sorted.{IsPermutation}
 use Rattle.czi_format.specs.Bytes.{i64_bytes}
-use Rattle.czi_format.specs.Entry.{Entry}
+use Rattle.czi_format.specs.Entry.{Entry, IsEntry}
 use Rattle.czi_format.specs.Segment.{header_bytes}
 use Rattle.czi_format.specs.Space.{same_span, deleted_after}
 use Rattle.czi_format.specs.Span.{Span, end_of, span_le, sorted}
@@ -67,6 +67,7 @@ pub record Stages (es : List Entry) (region : Region) (old new : EditPlan) (head
   pub piece : Range
   pub header : head.1 ≡ directory_header es
   pub data' : bytes_put region ≡ data_in (round32 (directory_size es)) es
+  pub entries : AllByRecursion IsEntry es
   pub long : length (data_in (round32 (directory_size es)) es) ≡ round32 (directory_size es)
   pub front : piece.at ≡ 0
   pub whole : piece.len ≡ round32 (directory_size es)

@@ -1,7 +1,8 @@
 //! New directories.
 
 ghost use Rattle.std.specs.Prelude.{◌≡◌, ◌+◌, ◌*◌, ◌^◌, ◌<◌, ◌≤◌, ◌++◌, pos, length, map, sum, take, drop, replicate, flat_map};
-ghost use Rattle.czi_format.specs.Entry.{entry_len, entry_bytes};
+ghost use Rattle.czi_format.specs.Entry.{IsEntry, entry_len, entry_bytes};
+ghost use Rattle.std.specs.List.{AllByRecursion};
 ghost use Rattle.czi_image.specs.View.{tile_of};
 ghost use Rattle.czi_region.specs.Pieces.{bytes_put, room};
 ghost use Rattle.czi_plan.specs.Directory.{data_in, directory_size, entries_of};
@@ -35,7 +36,8 @@ pub fn position_of(place: u64) -> i64
 /// Writes the entry of a subblock over the whole of `out`.
 fn write_tile(tile: &Tile, out: &mut [u8])
     requires { length out.old ≡ entry_len (tile_of tile.now).entry }
-    ensures { out.new ≡ entry_bytes (tile_of tile.now).entry }
+    ensures written { out.new ≡ entry_bytes (tile_of tile.now).entry }
+    ensures entry { IsEntry (tile_of tile.now).entry }
 {
     write_entry(&tile.info, position_of(tile.span.at), out);
 }
@@ -44,6 +46,7 @@ fn write_tile(tile: &Tile, out: &mut [u8])
 fn write_entries(tiles: &[Tile], at: usize, out: &mut [u8]) -> usize
     requires { at + sum (map entry_len (entries_of tiles.now)) ≤ length out.old }
     ensures end { result ≡ at + sum (map entry_len (entries_of tiles.now)) }
+    ensures entries { AllByRecursion IsEntry (entries_of tiles.now) }
     ensures seam { length (flat_map entry_bytes (entries_of tiles.now)) ≡ sum (map entry_len (entries_of tiles.now)) }
     ensures written { out.new ≡ take at out.old ++ (flat_map entry_bytes (entries_of tiles.now) ++ drop result out.old) }
 {
@@ -61,7 +64,8 @@ fn fill_directory(before: &[Tile], behind: &[Tile], out: &mut [u8])
     requires few { length before.now + length behind.now ≤ 2 ^ 20 }
     requires zeros { out.old ≡ replicate (length out.old) 0 }
     requires room { directory_size (entries_of before.now ++ entries_of behind.now) ≤ length out.old }
-    ensures { out.new ≡ data_in (length out.old) (entries_of before.now ++ entries_of behind.now) }
+    ensures written { out.new ≡ data_in (length out.old) (entries_of before.now ++ entries_of behind.now) }
+    ensures entries { AllByRecursion IsEntry (entries_of before.now ++ entries_of behind.now) }
 {
     let count = before.len() + behind.len();
     write_bytes(out, 0, &write_directory_head(count as u32));
@@ -75,6 +79,7 @@ pub fn stage_directory(before: &[Tile], behind: &[Tile], len: usize, region: &mu
     requires long { directory_size (entries_of before.now ++ entries_of behind.now) ≤ len }
     requires room { len ≤ room region.old }
     ensures bytes { bytes_put region.new ≡ bytes_put region.old ++ data_in len (entries_of before.now ++ entries_of behind.now) }
+    ensures entries { AllByRecursion IsEntry (entries_of before.now ++ entries_of behind.now) }
     ensures size { length (data_in len (entries_of before.now ++ entries_of behind.now)) ≡ len }
     ensures front { result.at ≡ length (bytes_put region.old) }
     ensures whole { result.len ≡ len }

@@ -5,6 +5,7 @@
 mod directory;
 mod freeing;
 mod heads;
+mod laws;
 mod placing;
 mod plan;
 mod removal;
@@ -12,5 +13,6 @@ mod search;
 #[cfg(test)]
 mod tests;
 
+pub use laws::removal_written;
 pub use plan::{EditPlan, PlanFault};
 pub use removal::plan_remove;

@@ -1,4 +1,6 @@
 ghost use Rattle.std.specs.Prelude.{◌≤◌, ◌^◌, IfOk, IsTrue};
+ghost use Rattle.std.specs.List.{AllByRecursion};
+ghost use Rattle.czi_region.specs.Pieces.{IsPiece};
 ghost use Rattle.czi_plan.specs.Conditions.{HasHeaders, IsMapOf};
 
 use crate::search::tile_with;
@@ -88,21 +90,32 @@ fn planned(
 ) -> Result<Result<(EditPlan, Vec<u8>), PlanFault>, Fail> {
     let dims = read_dims(alloc, dims).ok().ok_or("no dimensions")?;
     let map = map_of(alloc, index)?;
-    let found = tile_with(alloc, &index.tiles, &dims)?;
-    if found.is_none() || !has_headers(index) {
+    let Some(_) = tile_with(alloc, index.tiles.as_slice(), &dims)? else {
         return Err(Fail::from("no such subblock"));
+    };
+    if !has_headers(index) {
+        return Err(Fail::from("no headers"));
     }
     let mut region = Region::new(alloc);
     let mut plan = EditPlan::new(alloc);
-    if let Err(fault) = plan_remove(alloc, index, &map, &dims, &mut region, &mut plan) {
-        return Ok(Err(fault));
+    match plan_remove(alloc, index, &map, &dims, &mut region, &mut plan) {
+        Ok(()) => {}
+        Err(fault) => return Ok(Err(fault)),
     }
-    if plan.writes.len() == 0 {
-        return Err(Fail::from("no writes"));
-    }
-    let (_, piece) = plan.writes[0];
-    let bytes = region.get(&piece).to_vec(alloc)?;
+    let bytes = first_write(alloc, &region, &plan)?;
     Ok(Ok((plan, bytes)))
+}
+
+// The bytes of a plan's first write.
+fn first_write(alloc: Global, region: &Region, plan: &EditPlan) -> Result<Vec<u8>, AllocError>
+    requires { AllByRecursion (λ w. IsPiece region.now w.1) plan.now.writes.items }
+{
+    let writes = plan.writes.as_slice();
+    if writes.len() == 0 {
+        return Ok(Vec::new(alloc));
+    }
+    let (_, piece) = writes[0];
+    region.get(&piece).to_vec(alloc)
 }
 
 // The links: places, and the first 24 bytes of each.
@@ -169,6 +182,7 @@ fn past_the_end_the_directory_has_its_header_in_a_link(rt: HostRuntime) -> Resul
         [Span { at: 1280, len: 160 }].as_slice()
     );
     let links = links_of(alloc, &plan)?;
+    assert_eq!(rt; links.len(), 3);
     assert_eq!(rt; [links[0].0, links[1].0, links[2].0], [84, 704, 1280]);
     assert_eq!(rt; links[2].1.as_slice(), DIRECTORY);
     plan.clear();
@@ -178,44 +192,52 @@ fn past_the_end_the_directory_has_its_header_in_a_link(rt: HostRuntime) -> Resul
 }
 
 // A document of three subblocks in a row, of one dimension that starts at 0, 1 and 2, with the directory behind them.
+const THREE: [Part; 40] = [
+    (0, b"ZISRAWFILE"),
+    (16, &[0, 2]),
+    (24, &[0, 2]),
+    (84, &[0xE0, 5]),
+    (544, b"ZISRAWSUBBLOCK"),
+    (560, &[0x20, 1]),
+    (568, &[8, 1]),
+    (584, &[8]),
+    (620, &[1]),
+    (864, b"ZISRAWSUBBLOCK"),
+    (880, &[0x20, 1]),
+    (888, &[8, 1]),
+    (904, &[8]),
+    (940, &[1]),
+    (1184, b"ZISRAWSUBBLOCK"),
+    (1200, &[0x20, 1]),
+    (1208, &[8, 1]),
+    (1224, &[8]),
+    (1260, &[1]),
+    (1504, b"ZISRAWDIRECTORY"),
+    (1520, &[0x20, 1]),
+    (1528, &[0x1C, 1]),
+    (1536, &[3]),
+    (1664, b"DV"),
+    (1670, &[0x20, 2]),
+    (1692, &[1]),
+    (1696, b"X"),
+    (1704, &[1]),
+    (1716, b"DV"),
+    (1722, &[0x60, 3]),
+    (1744, &[1]),
+    (1748, b"X"),
+    (1752, &[1]),
+    (1756, &[1]),
+    (1768, b"DV"),
+    (1774, &[0xA0, 4]),
+    (1796, &[1]),
+    (1800, b"X"),
+    (1804, &[2]),
+    (1808, &[1]),
+];
+
 fn three(alloc: Global) -> Result<Index, Fail> {
     let mut image = vec![in alloc; 0u8; 1824]?;
-    put(
-        &mut image,
-        &[
-            (0, b"ZISRAWFILE"),
-            (16, &[0, 2]),
-            (24, &[0, 2]),
-            (84, &[0xE0, 5]),
-        ],
-    );
-    for (i, at) in [544, 864, 1184].iter().enumerate() {
-        let dims: [Part; 6] = [
-            (*at, b"ZISRAWSUBBLOCK"),
-            (*at + 16, &[0x20, 1]),
-            (*at + 24, &[8, 1]),
-            (*at + 40, &[8]),
-            (*at + 76, &[1]),
-            (1664 + 52 * i, b"DV"),
-        ];
-        put(&mut image, &dims);
-        let entry = 1664 + 52 * i;
-        image[entry + 6] = (*at % 256) as u8;
-        image[entry + 7] = (*at / 256) as u8;
-        image[entry + 28] = 1;
-        image[entry + 32] = b'X';
-        image[entry + 36] = i as u8;
-        image[entry + 40] = 1;
-    }
-    put(
-        &mut image,
-        &[
-            (1504, b"ZISRAWDIRECTORY"),
-            (1520, &[0x20, 1]),
-            (1528, &[0x1C, 1]),
-            (1536, &[3]),
-        ],
-    );
+    put(&mut image, &THREE);
     let mut rig = MemRig::new(alloc, &image, b"")?;
     let index = read_index(alloc, &mut rig).ok().ok_or("refused")?;
     Ok(index)
@@ -236,7 +258,8 @@ fn the_other_subblocks_stay(rt: HostRuntime) -> Result<(), Fail> {
             [Span { at: 1824, len: 288 }].as_slice()
         );
         assert_eq!(rt; plan.length, 2112);
-        assert_eq!(rt; (bytes.len(), bytes[0]), (256, 2));
+        assert_eq!(rt; bytes.len(), 256);
+        assert_eq!(rt; bytes[0], 2);
         assert_eq!(rt; (bytes[134], bytes[135]), first);
         assert_eq!(rt; (bytes[186], bytes[187]), second);
         assert_eq!(rt; bytes[232..].iter().all(|b| *b == 0), true);

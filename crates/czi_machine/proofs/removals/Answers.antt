@@ -1,6 +1,7 @@
 use Rattle.czi_machine.proofs.Anywhere.{removes_anywhere, undoes_anywhere}
 use Rattle.czi_machine.proofs.Removal.{removal_laid, removal_full, return_laid, return_full, removes}
 use Rattle.czi_machine.proofs.Return.{undoes_removal}
+use Rattle.czi_machine.proofs.OneOfThem.{removal_is_plan}
 use Rattle.czi_machine.proofs.removals.Goals as goal
 
 pub returns-clause-laid : goal.returns-clause-laid
@@ -26,3 +27,6 @@ returns-clause-removes_anywhere c = removes_anywhere
 
 pub returns-clause-undoes_anywhere : goal.returns-clause-undoes_anywhere
 returns-clause-undoes_anywhere c = undoes_anywhere
+
+pub returns-clause-one_of_them : goal.returns-clause-one_of_them
+returns-clause-one_of_them c = removal_is_plan

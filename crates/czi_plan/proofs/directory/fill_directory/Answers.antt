@@ -1,15 +1,16 @@
-use Rattle.std.proofs.Common.{◌≡◌, ℕ, ◌+◌, ◌++◌, take, drop, length, map, sum, flat_map, ap, sym, ◌∙◌, arith, refl}
+use Rattle.std.proofs.Common.{◌≡◌, ℕ, ◌+◌, ◌++◌, take, drop, length, map, sum, flat_map, ap, ◌∙◌, arith, refl}
 use Rattle.std.proofs.lemmas.List.{length-map}
 use Rattle.czi_format.specs.Contents.{directory_head}
-use Rattle.czi_format.specs.Entry.{entry_len, entry_bytes}
+use Rattle.czi_format.specs.Entry.{IsEntry, entry_len, entry_bytes}
 use Rattle.czi_image.specs.View.{tile_of}
 use Rattle.czi_image.specs.declared.types.Tile.{Tile}
 use Rattle.czi_plan.specs.Directory.{entries_of}
+use Rattle.czi_plan.proofs.Lists.{all_append}
 use Rattle.czi_plan.proofs.Entries.{filled}
 use Rattle.czi_plan.proofs.directory.fill_directory.Goals as goal
 
-pub returns : goal.returns
-returns c =
+pub returns-clause-written : goal.returns-clause-written
+returns-clause-written c =
     let es = entries_of c.args.before.now in
     let fs = entries_of c.args.behind.now in
     let s1 : ℕ = sum (map entry_len (entries_of c.args.before.now)) in
@@ -23,3 +24,6 @@ returns c =
     (c.write_entries.ensures.written ∙ (ap (λ n. take n c.write_entries-end.new.out ++ (flat_map entry_bytes (entries_of c.args.behind.now) ++ drop c.write_entries.result c.write_entries-end.new.out)) end1
     ∙ ap (λ n. take (128 + s1) c.write_entries-end.new.out ++ (flat_map entry_bytes (entries_of c.args.behind.now) ++ drop n c.write_entries-end.new.out)) end2))
     c.write_entries-end.ensures.seam refl refl
+
+pub returns-clause-entries : goal.returns-clause-entries
+returns-clause-entries c = all_append IsEntry (entries_of c.args.before.now) (entries_of c.args.behind.now) c.write_entries-end.ensures.entries c.write_entries.ensures.entries

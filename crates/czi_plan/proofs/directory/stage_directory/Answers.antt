@@ -1,4 +1,4 @@
-use Rattle.std.proofs.Common.{◌≡◌, ℕ, ◌+◌, ◌≤◌, take, length, replicate, ap, sym, ◌∙◌, arith, drop, length-append}
+use Rattle.std.proofs.Common.{◌≡◌, ℕ, ◌+◌, ◌≤◌, take, length, replicate, ap, ◌∙◌, arith, drop, length-append}
 use Rattle.std.proofs.lemmas.List.{length-replicate}
 use Rattle.czi_region.specs.Pieces.{bytes_put}
 use Rattle.czi_plan.specs.Directory.{entries_of, data_in}
@@ -15,11 +15,11 @@ returns-clause-bytes c =
     c.written_piece.ensures.bytes c.zeros-piece.new.self c.zeros-piece.result c.fill_directory.new.out inside same
     ∙ (ap (λ n. take c.zeros-piece.result.at (bytes_put c.zeros-piece.new.self) ++ (c.fill_directory.new.out ++ drop (c.zeros-piece.result.at + n) (bytes_put c.zeros-piece.new.self))) c.zeros-piece.ensures.long
     ∙ over_last (bytes_put c.args.region.now) (bytes_put c.zeros-piece.new.self) c.fill_directory.new.out (data_in c.args.len (entries_of c.args.before.now ++ entries_of c.args.behind.now)) c.zeros-piece.result.at c.args.len
-    c.zeros-piece.ensures.bytes c.zeros-piece.ensures.behind (c.fill_directory.ensures ∙ ap (λ n. data_in n (entries_of c.args.before.now ++ entries_of c.args.behind.now)) long))
+    c.zeros-piece.ensures.bytes c.zeros-piece.ensures.behind (c.fill_directory.ensures.written ∙ ap (λ n. data_in n (entries_of c.args.before.now ++ entries_of c.args.behind.now)) long))
 
 pub returns-clause-size : goal.returns-clause-size
 returns-clause-size c =
     let long : length c.get_mut.result.now ≡ c.args.len = ap length (c.get_mut.ensures.value ∙ c.zeros-piece.ensures.reads) ∙ length-replicate c.args.len 0 in
     let filled : c.fill_directory.new.out ≡ data_in c.args.len (entries_of c.args.before.now ++ entries_of c.args.behind.now)
-    = c.fill_directory.ensures ∙ ap (λ n. data_in n (entries_of c.args.before.now ++ entries_of c.args.behind.now)) long in
+    = c.fill_directory.ensures.written ∙ ap (λ n. data_in n (entries_of c.args.before.now ++ entries_of c.args.behind.now)) long in
     omega (arith, ap length filled, c.fill_directory.auto.out, long)

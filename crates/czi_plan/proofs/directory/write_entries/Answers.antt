@@ -1,9 +1,12 @@
-use Rattle.std.proofs.Common.{◌≡◌, ℕ, pos, ◌+◌, ◌-◌, ◌≤◌, List, ◌∷◌, ◌++◌, map, sum, take, drop, length, flat_map, ap, sym, ◌∙◌, arith, subst}
-use Rattle.czi_format.specs.Entry.{Entry, entry_len, entry_bytes}
-use Rattle.czi_doc.specs.View.{info_of}
+use Rattle.std.proofs.Common.{◌≡◌, ℕ, ◌+◌, ◌-◌, List, length, ◌∙◌, arith, subst}
+use Rattle.czi_format.specs.Entry.{entry_bytes}
 use Rattle.czi_image.specs.View.{tile_of}
 use Rattle.czi_plan.specs.Directory.{entries_of}
-use Rattle.czi_plan.proofs.Entries.{sum_here, entry_next, put_as}
+use Rattle.std.specs.List.{AllByRecursion}
+use Rattle.czi_format.specs.Entry.{IsEntry}
+use Rattle.czi_image.specs.declared.types.Tile.{Tile}
+use Rattle.czi_plan.proofs.Lists.{take_end}
+use Rattle.czi_plan.proofs.Entries.{sum_here, entry_next, put_as, all_here}
 use Rattle.czi_plan.proofs.directory.write_entries.Goals as goal
 
 pub loop-tile-preserved : goal.loop-tile-preserved
@@ -11,7 +14,7 @@ loop-tile-preserved c =
     let tiles = c.args.tiles.now in
     let i : ℕ = c.loop-tile.tile-index in
     let left = sum_here tiles i c.tile-item.result c.loop-tile-test.true c.tile-item.is in
-    let own : c.write_tile.new.out ≡ entry_bytes (tile_of c.tile-item.result).entry = c.write_tile.ensures in
+    let own : c.write_tile.new.out ≡ entry_bytes (tile_of c.tile-item.result).entry = c.write_tile.ensures.written in
     let k : c.loop-tile.end + c.entry_len.result - c.loop-tile.end ≡ c.entry_len.result = omega arith in
     let size : length c.write_tile.new.out ≡ c.entry_len.result = omega (arith, c.write_tile.auto.out, k) in
     let next = entry_next tiles i c.tile-item.result c.args.at c.loop-tile.end c.entry_len.result c.args.out.now c.loop-tile.out c.write_tile.new.out c.loop-tile-test.true c.tile-item.is (omega (arith, c.requires))
@@ -19,5 +22,9 @@ loop-tile-preserved c =
     record {
       end = omega (arith, left, c.loop-tile.invariant.end, c.entry_len.ensures);
       seam = next.0;
+      entries = all_here tiles i c.tile-item.result c.loop-tile-test.true c.tile-item.is c.loop-tile.invariant.entries c.write_tile.ensures.entry;
       written = put_as c.loop-tile.end c.entry_len.result _ c.loop-tile.out c.write_tile.new.out k ∙ next.1;
     }
+
+pub returns-clause-entries : goal.returns-clause-entries
+returns-clause-entries c = subst (λ (ts : List Tile). AllByRecursion IsEntry (entries_of ts)) (take_end c.args.tiles.now c.loop-tile.tile-index (omega (arith, c.loop-tile-test.false))) c.loop-tile.invariant.entries

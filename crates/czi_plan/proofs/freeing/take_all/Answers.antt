@@ -1,8 +1,8 @@
-use Rattle.std.proofs.Common.{◌≡◌, ℕ, ◌+◌, ◌*◌, ◌<◌, ◌≤◌, List, [], ◌∷◌, map, drop, length, ap, sym, ◌∙◌, arith, subst, inl, inr}
+use Rattle.std.proofs.Common.{◌≡◌, ◌+◌, List, [], ◌∷◌, map, drop, ap, sym, ◌∙◌, arith, subst, inl, inr}
 use Rattle.czi_format.specs.Space.{without}
 use Rattle.czi_format.specs.Span.{Span}
 use Rattle.czi_num.specs.Span.{span_of}
-use Rattle.czi_space.specs.State.{MapState, AreExtents, IsWhole, LiesInOne}
+use Rattle.czi_space.specs.State.{MapState, AreExtents}
 use Rattle.czi_space.proofs.Taken.{without_extents}
 use Rattle.czi_plan.specs.Geometry.{AreUsed}
 use Rattle.czi_plan.proofs.Extents.{used_here, without_here, untouched}

@@ -1,4 +1,4 @@
-use Rattle.std.proofs.Common.{◌≡◌, ◌+◌, ◌*◌, ◌≤◌, map, drop, length}
+use Rattle.std.proofs.Common.{◌≡◌, ◌+◌, ◌*◌, ◌≤◌, map, drop}
 use Rattle.czi_format.specs.Space.{without}
 use Rattle.czi_num.specs.Span.{span_of}
 use Rattle.czi_space.specs.State.{AreExtents}

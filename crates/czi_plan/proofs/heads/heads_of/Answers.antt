@@ -1,14 +1,10 @@
-use Rattle.std.proofs.Common.{◌≡◌, ℕ, ◌+◌, ◌≤◌, List, ◌++◌, map, filter, length, ap, sym, ◌∙◌, arith, subst}
-use Rattle.std.specs.List.{AllByRecursion}
-use Rattle.std.specs.List.Sorted.{IsPermutation}
+use Rattle.std.proofs.Common.{◌≡◌, List, ◌++◌, map, filter, length, ap, sym, ◌∙◌, arith}
 use Rattle.czi_format.specs.Space.{deleted_after}
-use Rattle.czi_format.specs.Span.{Span, span_le, sorted}
+use Rattle.czi_format.specs.Span.{Span}
 use Rattle.czi_num.specs.Span.{span_of}
 use Rattle.czi_num.specs.declared.span.Span.{Span as CodeSpan}
-use Rattle.czi_spans.specs.Apart.{first_of}
-use Rattle.czi_plan.specs.Geometry.{IsLong, AreUsed, AreFreed}
-use Rattle.czi_plan.specs.Steps.{Head, deleted_head, is_new}
-use Rattle.czi_plan.proofs.Lists.{assoc, map_append, all_weaken}
+use Rattle.czi_plan.specs.Steps.{deleted_head, is_new}
+use Rattle.czi_plan.proofs.Lists.{assoc, map_append}
 use Rattle.czi_plan.proofs.Order.{heads_are, taken_whole}
 use Rattle.czi_plan.proofs.heads.heads_of.Goals as goal
 

@@ -1,4 +1,4 @@
-use Rattle.std.proofs.Common.{◌≡◌, ℕ, ◌+◌, ◌≤◌, List, [], ◌++◌, ◌∷◌, map, drop, length, ap, sym, ◌∙◌, arith, subst}
+use Rattle.std.proofs.Common.{◌≡◌, ℕ, ◌+◌, List, [], ◌++◌, ◌∷◌, map, drop, length, ap, sym, ◌∙◌, arith, subst}
 use Rattle.czi_links.specs.Record.{Bytes, next_place}
 use Rattle.czi_links.specs.WriteSet.{WriteSet}
 use Rattle.czi_machine.specs.Cover.{Chained}

@@ -1,4 +1,4 @@
-use Rattle.std.proofs.Common.{◌≡◌, ◌+◌, ◌≤◌, ◌^◌, map, arith, sym}
+use Rattle.std.proofs.Common.{◌+◌, ◌≤◌, ◌^◌, map, arith, sym}
 use Rattle.czi_num.specs.Span.{span_of}
 use Rattle.czi_plan.proofs.Fits.{placed_ends}
 use Rattle.czi_plan.proofs.placing.place.Goals as goal

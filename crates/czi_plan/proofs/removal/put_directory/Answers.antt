@@ -1,5 +1,5 @@
-use Rattle.std.proofs.Common.{◌≡◌, ℕ, List, ◌+◌, ◌++◌, Ok, map, ap, sym, ◌∙◌, arith, subst}
-use Rattle.czi_format.specs.Space.{Fit, fit, use_all, use_span}
+use Rattle.std.proofs.Common.{◌≡◌, ℕ, List, ◌+◌, ◌++◌, Ok, map, ap, ◌∙◌, arith, subst}
+use Rattle.czi_format.specs.Space.{fit, use_all, use_span}
 use Rattle.czi_format.specs.Span.{round32}
 use Rattle.czi_num.specs.Span.{span_of}
 use Rattle.czi_num.specs.declared.span.Span.{Span as CodeSpan}

@@ -1,4 +1,4 @@
-use Rattle.std.proofs.Common.{◌≡◌, map}
+use Rattle.std.proofs.Common.{map}
 use Rattle.czi_num.specs.Span.{span_of}
 use Rattle.czi_plan.specs.Removal.{freed_of, dead_of}
 use Rattle.czi_plan.proofs.Gone.{both_gone, one_gone, freed-append, dead-append}

@@ -1,4 +1,4 @@
-use Rattle.std.proofs.Common.{rules, ◌≡◌, ℕ, ◌+◌, ◌-◌, ◌++◌, ◌∷◌, [], List, map, take, drop, length, max, ap, sym, ◌∙◌, arith, subst, Ok, Err}
+use Rattle.std.proofs.Common.{◌≡◌, ℕ, ◌+◌, ◌-◌, ◌++◌, ◌∷◌, [], List, map, take, drop, length, max, ap, ◌∙◌, subst}
 use Rattle.std.proofs.lemmas.Result.{err_from_is_err_and}
 use Rattle.czi_format.specs.Entry.{Entry}
 use Rattle.czi_format.specs.Space.{fit, use_all}
@@ -13,7 +13,6 @@ use Rattle.czi_plan.specs.declared.plan.EditPlan.{EditPlan}
 use Rattle.czi_region.specs.declared.block.Piece.{Piece as Range}
 use Rattle.std.proofs.Common.{Vec, Global}
 use Rattle.czi_plan.proofs.Planned.{left_are}
-use Rattle.czi_plan.proofs.Placed.{plan_pieces}
 use Rattle.czi_plan.proofs.Removed.{map_extents}
 use Rattle.czi_plan.proofs.Whole.{Fits, removal_parts, directory_is_head, removes, fits_here, staged_as, parts_as}
 use Rattle.czi_plan.proofs.removal.remove_at.Goals as goal

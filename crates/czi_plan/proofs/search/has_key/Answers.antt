@@ -1,4 +1,4 @@
-use Rattle.std.proofs.Common.{◌≡◌, ◌∙◌}
+use Rattle.std.proofs.Common.{◌∙◌}
 use Rattle.czi_doc.specs.KeyView.{key_of}
 use Rattle.czi_doc.specs.View.{dims_of}
 use Rattle.czi_doc.proofs.Equal.{equal, equal_back}

@@ -1,6 +1,5 @@
-use Rattle.std.proofs.Common.{◌≡◌, ℕ, ◌+◌, ◌<◌, ◌≤◌, get_or, length, Bool, true, false, ap, sym, ◌∙◌, arith, inl, inr, subst}
+use Rattle.std.proofs.Common.{◌≡◌, get_or, true, ap, sym, ◌∙◌, arith, inl, inr}
 use Rattle.std.proofs.lemmas.Bool.{cases_lt}
-use Rattle.czi_doc.specs.KeyView.{key_of}
 use Rattle.czi_doc.specs.View.{dims_of}
 use Rattle.czi_format.specs.Key.{key}
 use Rattle.czi_format.specs.Live.{Tile}
