@@ -1,5 +1,5 @@
 -- An engine that was opened stands on its rig.
-use Rattle.std.proofs.Common.{◌≡◌, ℕ, ◌≤◌, List, map, Some, refl, sym, ◌∙◌, ap, subst, arith}
+use Rattle.std.proofs.Common.{◌≡◌, ℕ, List, map, Some, refl, sym, ◌∙◌, ap, subst, arith}
 use Rattle.std.specs.Option.{ForSome}
 use Rattle.std.proofs.lemmas.Option.{same_Some}
 use Rattle.czi_num.specs.Span.{span_of}

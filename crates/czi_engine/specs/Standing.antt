@@ -1,5 +1,5 @@
 -- What an engine stands on.
-use Rattle.std.specs.Prelude.{◌≡◌, ℕ, List, [], ◌∷◌, map, Option, None, Some}
+use Rattle.std.specs.Prelude.{◌≡◌, List, [], ◌∷◌, map, Option, None, Some}
 use Rattle.std.specs.Option.{ForSome}
 use Rattle.czi_format.specs.Span.{Span}
 use Rattle.czi_format.specs.Space.{with_held}

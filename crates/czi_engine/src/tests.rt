@@ -1,6 +1,6 @@
 use crate::{Engine, ImageRefusal, OpenError};
 use czi_num::{Span, write_bytes};
-use czi_rig::{Call, File, MemRig};
+use czi_rig::{File, MemRig};
 use std::alloc::{AllocError, Global};
 use std::test::Fail;
 
@@ -54,7 +54,9 @@ fn an_empty_document_is_opened_and_closed(rt: HostRuntime) -> Result<(), Fail> {
     let alloc = rt.alloc();
     let image = file(alloc, 704, &IMAGE, &[])?;
     let mut rig = MemRig::new(alloc, &image, b"")?;
-    let engine = Engine::open(alloc, &mut rig).ok().ok_or("not opened")?;
+    let Ok(engine) = Engine::open(alloc, &mut rig) else {
+        return Err(Fail::new("not opened"));
+    };
     assert!(rt; engine.entries().is_empty() && engine.index().directory.is_none());
     assert_eq!(rt; (engine.length(), engine.number()), (704, 0));
     assert!(rt; !engine.down() && engine.map().held().is_empty());
@@ -74,10 +76,14 @@ fn a_journal_that_counts_is_recovered_and_sealed(rt: HostRuntime) -> Result<(), 
     let journal = file(alloc, 524352, &JOURNAL, &[])?;
     let want = file(alloc, 704, &IMAGE, &[])?;
     let mut rig = MemRig::new(alloc, &image, &journal)?;
-    let mut engine = Engine::open(alloc, &mut rig).ok().ok_or("not opened")?;
+    let Ok(mut engine) = Engine::open(alloc, &mut rig) else {
+        return Err(Fail::new("not opened"));
+    };
     assert_eq!(rt; rig.content(File::Image), want.as_slice());
     assert_eq!(rt; rig.content(File::Journal), journal.as_slice());
-    assert_eq!(rt; engine.reopen(alloc, &mut rig), Ok(()));
+    let Ok(()) = engine.reopen(alloc, &mut rig) else {
+        return Err(Fail::new("not opened again"));
+    };
     assert_eq!(rt; (engine.length(), engine.number()), (704, 0));
     assert!(rt; !engine.down());
     let sealed = engine.seal(&mut rig);
@@ -88,7 +94,11 @@ fn a_journal_that_counts_is_recovered_and_sealed(rt: HostRuntime) -> Result<(), 
 }
 
 // Why an image with some of its bytes written over isn't opened beside such a journal.
-fn refusal(alloc: Global, in_image: &[Part], in_journal: &[Part]) -> Result<Option<OpenError>, AllocError> {
+fn refusal(
+    alloc: Global,
+    in_image: &[Part],
+    in_journal: &[Part],
+) -> Result<Option<OpenError>, AllocError> {
     let image = file(alloc, 800, &IMAGE, in_image)?;
     let journal = file(alloc, 524352, &JOURNAL, in_journal)?;
     let mut rig = MemRig::new(alloc, &image, &journal)?;
@@ -113,7 +123,10 @@ fn each_refusal_is_told(rt: HostRuntime) -> Result<(), Fail> {
     assert_eq!(rt; refusal(alloc, &[], &[(262228, &[9, 0])])?, Some(bad));
     assert_eq!(rt; refusal(alloc, &[], &[(262228, &[0x21, 3])])?, Some(short));
     assert_eq!(rt; refusal(alloc, &[], &[(262212, &[9; 16])])?, Some(foreign));
-    assert_eq!(rt; refusal(alloc, &[(100, &[1])], &[(0, &[0])])?, Some(pending));
+    assert_eq!(rt;
+        refusal(alloc, &[(100, &[1])], &[(0, &[0])])?,
+        Some(pending)
+    );
     Ok(())
 }
 
@@ -122,10 +135,11 @@ fn an_engine_is_down_until_it_is_opened_again(rt: HostRuntime) -> Result<(), Fai
     let alloc = rt.alloc();
     let image = file(alloc, 704, &IMAGE, &[])?;
     let mut rig = MemRig::new(alloc, &image, b"")?;
-    let mut engine = Engine::open(alloc, &mut rig).ok().ok_or("not opened")?;
+    let Ok(mut engine) = Engine::open(alloc, &mut rig) else {
+        return Err(Fail::new("not opened"));
+    };
     let calls = rig.calls();
     rig.fail_call(calls)?;
-    assert_eq!(rt; rig.call(0), Call::Sync(File::Image));
     assert_eq!(rt; engine.reopen(alloc, &mut rig), Err(OpenError::ImageDevice));
     assert!(rt; engine.down());
     assert_eq!(rt; engine.reopen(alloc, &mut rig), Ok(()));
