@@ -31,7 +31,7 @@ use Rattle.czi_engine.specs.Holes.{AreHigh, view_of}
 use Rattle.czi_engine.specs.Stands.{IsSettled, StandsOn, EitherSide}
 use Rattle.czi_engine.proofs.Walked.{lies_at, many_tiles}
 use Rattle.czi_engine.proofs.Made.{made_wrote}
-use Rattle.czi_engine.proofs.Opening.{recovered_opens, view_opens}
+use Rattle.czi_engine.proofs.Openable.{recovered_opens, view_opens}
 
 -- nothing is written into UpdatePending
 pub none_pending : (bytes : List ℕ) (live : Live) (s s' : State) (t : Turn) (pieces : List Piece) (k : ℕ) → LiesLoosely bytes live s → IsTidy s → Leads s s' → SpansAt s'.layout (turned t live)

@@ -1,7 +1,7 @@
 mod Ranges
 mod Writable
 mod Outside
-mod Opening
+mod Openable
 mod Newly
 mod Made
 mod Walked
@@ -9,3 +9,4 @@ mod Committed
 mod Touching
 mod Held
 mod Reading
+pub mod Fresh

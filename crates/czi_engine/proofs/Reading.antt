@@ -28,7 +28,7 @@ use Rattle.czi_engine.specs.Holes.{AreHigh, view_of}
 use Rattle.czi_engine.specs.Stands.{StandsOn, ShowsWhole}
 use Rattle.czi_engine.proofs.Committed.{none_pending, removal_stands}
 use Rattle.czi_engine.proofs.Made.{with_links_is}
-use Rattle.czi_engine.proofs.Opening.{settled_whole}
+use Rattle.czi_engine.proofs.Openable.{settled_whole}
 use Rattle.czi_engine.proofs.Outside.{Has, same_live}
 use Rattle.czi_engine.proofs.Ranges.{front_outside}
 

@@ -1,8 +1,17 @@
-//! What an engine stands on: a state of the machine of edits in an image beside its journal, and the
-//! laws of one commit.
+//! The engine: an image beside its journal, opened, edited where it lies, and closed. With it what an engine stands on: a
+//! state of the machine of edits in an image beside its journal, and the laws of one commit.
 #![tactic(auto)]
 
 ghost use Rattle.czi_engine.specs.Laws.{DocumentOpens, ItselfRests, RestsStands, HeldStays, AloneShows, WrittenHasBytes, CommitLeaves100, RemovalLeaves100, HolesAreHigh, StandsOutside, RecoveredOpens, ViewOpens, OpenedStands, MadeWrote, CommitStands, CommitOpens, RemovalStands, RemovalOpens, FreeInView, ZerosInView, PlaceInView, CommitTouches, RemovalTouches};
+
+mod engine;
+mod opening;
+
+pub use czi_opening::{ImageRefusal, OpenError};
+pub use engine::Engine;
+
+#[cfg(test)]
+mod tests;
 
 /// What stands for the bytes of a state, outside the holes of the state, opens as the state.
 pub fn views_open()

@@ -1,5 +1,5 @@
 use Rattle.czi_engine.proofs.Held.{document_opens, itself_rests, rests_stands, held_stays}
-use Rattle.czi_engine.proofs.Opening.{recovered_opens, view_opens}
+use Rattle.czi_engine.proofs.Openable.{recovered_opens, view_opens}
 use Rattle.czi_engine.proofs.Outside.{stands_outside}
 use Rattle.czi_engine.proofs.Ranges.{holes_high}
 use Rattle.czi_engine.proofs.views_open.Goals as goal

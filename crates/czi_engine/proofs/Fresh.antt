@@ -1,0 +1,75 @@
+-- An engine that was opened stands on its rig.
+use Rattle.std.proofs.Common.{◌≡◌, ℕ, List, map, Some, refl, sym, ◌∙◌, ap, subst, arith}
+use Rattle.std.specs.Option.{ForSome}
+use Rattle.std.proofs.lemmas.Option.{same_Some}
+use Rattle.czi_num.specs.Span.{span_of}
+use Rattle.czi_rig.specs.declared.rig.Rig.{Ghosts}
+use Rattle.czi_rig.specs.declared.file.File.{File}
+use Rattle.czi_rig.specs.declared.file.File.TheVariants.{Image, Journal}
+use Rattle.czi_rig.specs.Disk.{Disk, Left, Everywhere, IsAtRest, at_rest}
+use Rattle.czi_rig.specs.State.{State, known, seen_of}
+use Rattle.czi_rig.specs.Passes.{GoesOn}
+use Rattle.czi_rig.specs.Moments.{Devices, devices, all_of, LeavesNow, CountsNow}
+use Rattle.czi_rig.proofs.Files.{left_settled}
+use Rattle.czi_rig.proofs.Known.{known_file, known_said, known_seen, leaves_now, told_before}
+use Rattle.czi_image.specs.declared.index.Index.{Index}
+use Rattle.czi_image.specs.Holds.{Indexes}
+use Rattle.czi_space.specs.State.{AreExtents}
+use Rattle.czi_vault.specs.Recovered.{Recovered}
+use Rattle.czi_plan.proofs.Parts.{free_extents}
+use Rattle.czi_opening.specs.declared.opening.Opened.{Opened}
+use Rattle.czi_opening.specs.Answers.{AreRecovered, IsJournal}
+use Rattle.czi_opening.specs.Course.{From, Stays, StandsForItself}
+use Rattle.czi_engine.specs.Standing.{IsItself, IsOf, StandsOnRig}
+use Rattle.czi_engine.specs.declared.engine.Engine.{Engine}
+
+-- the extents of an index can be those of a map
+pub extents_of_index : (x : Index) → AreExtents 0 x.length (map span_of x.extents.items)
+extents_of_index x = free_extents 0 x.length (map span_of x.extents.items) (omega arith) x.free.apart x.free.aligned x.free.inside
+
+module _ {D : Type 0} (rig : Ghosts D) where
+  -- the recovered image, beside the journal of which it was recovered, is what both stand for
+  pub itself : (old new : D) → CountsNow rig → ((r : D) (f : File) → ForSome (known (rig.state r) f) (λ disk. Left disk.durable disk.seen))
+      → GoesOn (rig.state old) (rig.state new) → (rig.state new).said ≡ (rig.state old).said
+      → ForSome (seen_of (rig.state old) Image) (λ image. ForSome (seen_of (rig.state old) Journal) (λ journal. AreRecovered image journal (rig.state new)))
+      → ForSome (devices (rig.state old)) (λ all. From rig old new (Stays all))
+      → ForSome (devices (rig.state new)) IsItself
+  itself old new counts reads goes said recovered moments = λ now is.
+      let of_image = told_before (rig.state old) (rig.state new) Image now.image goes (known_file (rig.state new) Image now is) in
+      let of_journal = told_before (rig.state old) (rig.state new) Journal now.journal goes (known_file (rig.state new) Journal now is) in
+      let of_said : (rig.state old).said ≡ Some now.said = sym said ∙ known_said (rig.state new) now is in
+      let all : Devices = record { image = of_image.0; journal = of_journal.0; said = now.said } in
+      let was : devices (rig.state old) ≡ Some all = λ i. all_of (of_image.1 i) (of_journal.1 i) (of_said i) in
+      let r = recovered all.image.seen (known_seen (rig.state old) Image all was) all.journal.seen (known_seen (rig.state old) Journal all was) in
+      let from = moments all was in
+      let left : LeavesNow now now.image.seen now.journal.seen now.said = record {
+        image_is = reads new Image now.image (known_file (rig.state new) Image now is);
+        journal_is = reads new Journal now.journal (known_file (rig.state new) Journal now is);
+        said_is = refl;
+      } in
+      let stays : Stays all now.image.seen now.journal.seen now.said =
+      from.always now.image.seen now.journal.seen now.said
+      (counts new (rig.state from.then).moment now.image.seen now.journal.seen now.said from.after.later (leaves_now (rig.state new) now is now.image.seen now.journal.seen now.said left)) in
+      let made : r.bytes ≡ now.image.seen = ap (λ (d : Disk). d.seen) (same_Some (at_rest r.bytes) now.image (sym r.synced.image_is ∙ known_file (rig.state new) Image now is)) in
+      subst (λ (b : List ℕ). Recovered now.image.seen now.journal.seen b) made (stays.0.same r.bytes r.recovered)
+
+pub begins : (s : State) (o : Opened) (x : Engine) → IsOf o x → ForSome (seen_of s Image) (λ image. Indexes image o.index) → ForSome (known s Journal) (Everywhere (IsJournal o.journal))
+    → ForSome (known s Image) IsAtRest × ForSome (known s Journal) IsAtRest → ForSome (devices s) IsItself → StandsOnRig s x
+begins s o x of shown stands synced own = record {
+  image = synced.0;
+  journal = synced.1;
+  itself = own;
+  index = λ image is. subst (λ (i : Index). Indexes image i) (sym of.index) (shown image is);
+  armed = λ disk is. subst (λ j. Everywhere (IsJournal j) disk) (sym of.journal) (stands disk is);
+  own_map = of.own_map;
+}
+
+left_seen : (d : Disk) (left : List ℕ) → IsAtRest d → Left d.durable left → left ≡ d.seen
+left_seen d left rest l = left_settled d.seen left (subst (λ e. Left e left) (ap (λ (x : Disk). x.durable) rest) l)
+
+-- what a crash leaves of files that are on the disk
+pub stands_for_itself : (all : Devices) → IsAtRest all.image → IsAtRest all.journal → IsItself all → StandsForItself all
+stands_for_itself all image journal own = λ i j o l.
+    let of_image : i ≡ all.image.seen = left_seen all.image i image l.image_is in
+    let of_journal : j ≡ all.journal.seen = left_seen all.journal j journal l.journal_is in
+    subst (λ (x : List ℕ). Recovered x j all.image.seen) (sym of_image) (subst (λ (x : List ℕ). Recovered all.image.seen x all.image.seen) (sym of_journal) own)
