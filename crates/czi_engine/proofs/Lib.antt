@@ -6,6 +6,7 @@ mod Newly
 mod Made
 mod Walked
 mod Committed
+mod Returned
 mod Touching
 mod Held
 mod Reading

@@ -1,11 +1,12 @@
 -- No write touches an item that stays.
-use Rattle.std.proofs.Common.{◌≡◌, ℕ, zero, suc, ◌+◌, ◌-◌, ◌≤◌, ◌<◌, List, [], ◌∷◌, map, length, get_or, Some, None, refl, ap, sym, ◌∙◌, arith, inl, inr, ⊎_elim, subst}
+use Rattle.std.proofs.Common.{◌≡◌, ℕ, zero, suc, ◌+◌, ◌%◌, ◌-◌, ◌≤◌, ◌<◌, List, [], ◌∷◌, map, length, get_or, Some, None, Ok, refl, ap, sym, ◌∙◌, arith, inl, inr, ⊎_elim, subst}
 use Rattle.std.specs.Prelude.{slice_get}
 use Rattle.std.specs.Option.{unwrap_or}
 use Rattle.std.proofs.lemmas.Bool.{cases_lt}
 use Rattle.czi_format.specs.Bytes.{bytes_at}
-use Rattle.czi_format.specs.Entry.{Dim}
-use Rattle.czi_format.specs.Layout.{Layout, HasLayout}
+use Rattle.czi_format.specs.Document.{Subblock}
+use Rattle.czi_format.specs.Entry.{Dim, Entry}
+use Rattle.czi_format.specs.Layout.{Place, Layout, HasLayout}
 use Rattle.czi_format.specs.Live.{Live, Directory, Tile, segments, reached}
 use Rattle.czi_format.specs.Segment.{Segment, extent}
 use Rattle.czi_format.specs.Span.{Span, end_of}
@@ -13,14 +14,14 @@ use Rattle.czi_format.specs.Space.{use_span, place_for}
 use Rattle.czi_format.proofs.Unique.{reaches_unique}
 use Rattle.czi_links.specs.Reading.{Reading, Void, Holds, OfVersion, BadAt}
 use Rattle.czi_journal.specs.Journals.{slot_of}
-use Rattle.czi_machine.specs.Change.{Act, brought, out}
+use Rattle.czi_machine.specs.Change.{Act, brought, into, out}
 use Rattle.czi_machine.specs.Cover.{between, cover}
 use Rattle.czi_machine.specs.Edit.{remove}
 use Rattle.czi_machine.specs.Laws.{LiesLoosely, Leads}
 use Rattle.czi_machine.specs.Places.{live_places, space_of}
-use Rattle.czi_machine.specs.Removal.{with_directory}
+use Rattle.czi_machine.specs.Removal.{with_directory, PlansDirectory}
 use Rattle.czi_machine.specs.Sound.{IsTidy, live_spans}
-use Rattle.czi_machine.specs.State.{State, spans_of, item_places, items_of, held}
+use Rattle.czi_machine.specs.State.{Former, State, spans_of, item_places, items_of, held}
 use Rattle.czi_machine.specs.Turn.{Turn, turned, new_segments, SpansAt}
 use Rattle.czi_machine.specs.Writes.{AreOnce, WritesIn, marked}
 use Rattle.czi_machine.specs.Written.{Piece, byte_of, Wrote}
@@ -29,16 +30,19 @@ use Rattle.czi_machine.proofs.Clear.{HeaderAt, header_at_front, not_written}
 use Rattle.czi_machine.proofs.Cover.{between_in, between_high}
 use Rattle.czi_machine.proofs.Fitting.{Uses, placed}
 use Rattle.czi_machine.proofs.Led.{led, edits_lead}
+use Rattle.czi_machine.proofs.Leaving.{among_covers}
 use Rattle.czi_machine.proofs.Opened.{layout_spans}
 use Rattle.czi_machine.proofs.Outside.{same_bytes}
-use Rattle.czi_machine.proofs.Placing.{cover-live_places, is_space, without_fewer}
-use Rattle.czi_machine.proofs.Removal.{brought_out}
+use Rattle.czi_machine.proofs.Placing.{cover-live_places, held_covered, is_space, without_fewer}
+use Rattle.czi_machine.proofs.Removal.{brought_out, brought_into}
 use Rattle.czi_vault.specs.Recovered.{Recovered, StandsFor, Stands}
 use Rattle.czi_engine.specs.Commit.{Step, made_of, pieces_in, IsStep, IsPlanned, IsRemoval, removed}
 use Rattle.czi_engine.specs.Holes.{AreHigh, view_of}
 use Rattle.czi_engine.specs.Moment.{AlikeInItems, BringsApart}
+use Rattle.czi_engine.specs.Return.{IsReturn, returned}
 use Rattle.czi_engine.specs.Stands.{StandsOn}
 use Rattle.czi_engine.proofs.Committed.{commit_stands, removal_stands}
+use Rattle.czi_engine.proofs.Returned.{return_stands}
 use Rattle.czi_engine.proofs.Made.{made_wrote}
 use Rattle.czi_engine.proofs.Outside.{stands_outside}
 use Rattle.czi_engine.proofs.Ranges.{live_outside}
@@ -166,15 +170,37 @@ new_directory d i k =
     let none : brought (let c : List (Act Tile) = out i in c) ≡ [] = brought_out Tile i in
     rw none (omega arith)
 
-removal_apart : (bytes : List ℕ) (live : Live) (s : State) (dims : List Dim) (i : ℕ) (d : Directory) (c : Step) → LiesLoosely bytes live s → IsTidy s → IsRemoval live s dims i d c → BringsApart live (with_directory d (out i))
-removal_apart bytes live s dims i d c lies is plan k some =
-    let need : ℕ = 32 + d.segment.allocated in
-    let uses : Uses (space_of s) (use_span (space_of s) (record { at = d.segment.at; len = need })) (record { at = d.segment.at; len = need } ∷ []) =
-    placed (space_of s) need d.segment.at (is_space s is) (omega (arith, plan.plans.directory.need)) (omega arith) (ap (place_for (space_of s)) plan.plans.directory.need ∙ plan.plans.directory.place) in
+-- where a need fits nothing is live
+fits_apart : (bytes : List ℕ) (live : Live) (s : State) (need at : ℕ) (k : ℕ) → LiesLoosely bytes live s → IsTidy s → need % 32 ≡ 0 → 0 < need → place_for (space_of s) need ≡ Ok at → 1 ≤ between at (at + need) k
+    → cover (map extent (segments live)) k ≡ 0
+fits_apart bytes live s need at k lies is even long place some =
+    let uses : Uses (space_of s) (use_span (space_of s) (record { at = at; len = need })) (record { at = at; len = need } ∷ []) = placed (space_of s) need at (is_space s is) even long place in
     elim (cases_lt k s.layout.length) [
-      | inl h ↦ omega (arith, uses.inside k h, without_fewer (held s) s.layout.deleted k, is.once k, ap (λ z. cover z k) (all_spans s.layout live lies.extents), new_directory d i k, some)
+      | inl h ↦ omega (arith, uses.inside k h, without_fewer (held s) s.layout.deleted k, is.once k, ap (λ z. cover z k) (all_spans s.layout live lies.extents), some)
       | inr h ↦ omega (arith, is.inside k h, ap (λ z. cover z k) (all_spans s.layout live lies.extents))
     ]
+
+directory_apart : (bytes : List ℕ) (live : Live) (s : State) (subblocks : List Subblock) (es : List Entry) (d : Directory) (padding : ℕ) (pieces : List Piece) (k : ℕ) → LiesLoosely bytes live s → IsTidy s
+    → PlansDirectory s subblocks es d padding pieces → 1 ≤ between d.segment.at (end_of (extent d.segment)) k → cover (map extent (segments live)) k ≡ 0
+directory_apart bytes live s subblocks es d padding pieces k lies is plan some =
+    fits_apart bytes live s (32 + d.segment.allocated) d.segment.at k lies is (omega (arith, plan.need)) (omega arith) (ap (place_for (space_of s)) plan.need ∙ plan.place) (omega (arith, some))
+
+removal_apart : (bytes : List ℕ) (live : Live) (s : State) (dims : List Dim) (i : ℕ) (d : Directory) (c : Step) → LiesLoosely bytes live s → IsTidy s → IsRemoval live s dims i d c → BringsApart live (with_directory d (out i))
+removal_apart bytes live s dims i d c lies is plan k some = directory_apart bytes live s _ _ d plan.padding (pieces_in c) k lies is plan.plans.directory (omega (arith, new_directory d i k, some))
+
+-- a new directory, and the subblock that goes back
+new_both : (d : Directory) (i : ℕ) (x : Tile) (k : ℕ)
+    → cover (map extent (new_segments (with_directory d (into i x)))) k ≡ between d.segment.at (end_of (extent d.segment)) k + between x.segment.at (end_of (extent x.segment)) k
+new_both d i x k =
+    let one : brought (into i x) ≡ x ∷ [] = brought_into i x in
+    rw one (omega arith)
+
+return_apart : (start bytes : List ℕ) (live : Live) (s : State) (formers : List Former) (i : ℕ) (p : Place) (x : Tile) (d : Directory) (l' : Layout) (c : Step) → LiesLoosely bytes live s → IsTidy s
+    → IsReturn start bytes live s formers i p x d l' c → BringsApart live (with_directory d (into i x))
+return_apart start bytes live s formers i p x d l' c lies is plan k some = elim (cases_lt 0 (between d.segment.at (end_of (extent d.segment)) k)) [
+  | inl h ↦ directory_apart bytes live s _ _ d plan.padding (pieces_in c) k lies is plan.plans.directory h
+  | inr h ↦ omega (arith, h, some, new_both d i x k, among_covers (extent x.segment) (held s) k plan.held.held, held_covered s k is, is.once k, ap (λ z. cover z k) (all_spans s.layout live lies.extents))
+]
 
 pub removal_touches : (start bytes : List ℕ) (live : Live) (s : State) (dims : List Dim) (i : ℕ) (d : Directory) (c : Step) (high : AreHigh s) → StandsOn start bytes live s → IsRemoval live s dims i d c → IsStep bytes c
     → AlikeInItems (view_of bytes s high) (made_of c bytes)
@@ -188,3 +214,16 @@ removal_touches start bytes live s dims i d c high on plan is =
     alike_sides start bytes other live (turned t live) s s' high on after
     (λ k i' j. stays_same bytes other live s s' t (pieces_in c) on.lies on.tidy (edits_lead s s' (remove dims) both.0) after.lies.extents plan.plans.around.inside made.0
     (removal_apart bytes live s dims i d c on.lies on.tidy plan) k i' j (live_inside other (turned t live) s' k after.lies after.tidy j))
+
+pub return_touches : (start bytes : List ℕ) (live : Live) (s : State) (formers : List Former) (i : ℕ) (p : Place) (x : Tile) (d : Directory) (l' : Layout) (c : Step) (high : AreHigh s) → StandsOn start bytes live s
+    → IsReturn start bytes live s formers i p x d l' c → IsStep bytes c → AlikeInItems (view_of bytes s high) (made_of c bytes)
+return_touches start bytes live s formers i p x d l' c high on plan is =
+    let made = made_wrote bytes c is in
+    let other : List ℕ = made_of c bytes in
+    let t : Turn = with_directory d (into i x) in
+    let s' : State = returned bytes s formers i p x l' in
+    let both = return_stands start bytes live s formers i p x d l' c on plan is in
+    let after : StandsOn start other (turned t live) s' = both.1 in
+    alike_sides start bytes other live (turned t live) s s' high on after
+    (λ k i' j. stays_same bytes other live s s' t (pieces_in c) on.lies on.tidy (inr both.0) after.lies.extents plan.plans.around.inside made.0
+    (return_apart start bytes live s formers i p x d l' c on.lies on.tidy plan) k i' j (live_inside other (turned t live) s' k after.lies after.tidy j))

@@ -3,18 +3,18 @@ use Rattle.std.specs.List.{AllByRecursion}
 use Rattle.std.specs.Prelude.{◌≡◌, ◌+◌, ◌-◌, ◌⊎◌, ℕ, pos, List, [], ◌++◌, length, slice_index, Ok}
 use Rattle.czi_format.specs.Bytes.{IsBytes, bytes_at}
 use Rattle.czi_format.specs.Entry.{Dim}
-use Rattle.czi_format.specs.Layout.{HasLayout}
-use Rattle.czi_format.specs.Live.{Live, Directory, document, update_pending}
+use Rattle.czi_format.specs.Layout.{Place, Layout, HasLayout}
+use Rattle.czi_format.specs.Live.{Live, Directory, Tile, document, update_pending}
 use Rattle.czi_format.specs.Shows.{Reaches}
 use Rattle.czi_format.specs.Space.{place_for}
 use Rattle.czi_format.specs.Span.{Span}
 use Rattle.czi_links.specs.Record.{Bytes}
-use Rattle.czi_machine.specs.Change.{out}
+use Rattle.czi_machine.specs.Change.{into, out}
 use Rattle.czi_machine.specs.Edit.{remove}
-use Rattle.czi_machine.specs.Machine.{after_edit}
+use Rattle.czi_machine.specs.Machine.{after_edit, after_undo}
 use Rattle.czi_machine.specs.Places.{space_of}
 use Rattle.czi_machine.specs.Removal.{with_directory}
-use Rattle.czi_machine.specs.State.{State, held}
+use Rattle.czi_machine.specs.State.{Former, State, held}
 use Rattle.czi_machine.specs.Turn.{Turn, turned}
 use Rattle.czi_machine.specs.Written.{Wrote, IsZeros}
 use Rattle.czi_rig.specs.Disk.{Covers, SameOutside, IsAtRest}
@@ -27,6 +27,7 @@ use Rattle.czi_engine.specs.Free.{LiesFree, HoldsUsable, AreFree}
 use Rattle.czi_engine.specs.Holes.{holes_of, AreHigh, view_of}
 use Rattle.czi_engine.specs.Moment.{AlikeInItems, BringsApart}
 use Rattle.czi_engine.specs.Rests.{RestsOn}
+use Rattle.czi_engine.specs.Return.{IsReturn, returned}
 use Rattle.czi_engine.specs.Stands.{Opens, OpensAs, ShowsWhole, EitherSide, StandsOn}
 
 -- the holes of a state in bytes are high
@@ -129,3 +130,18 @@ CommitLeaves100 = (start bytes : List ℕ) (live : Live) (s s' : State) (t : Tur
 abbrev pub RemovalLeaves100 : Type 0
 RemovalLeaves100 = (start bytes : List ℕ) (live : Live) (s : State) (dims : List Dim) (i : ℕ) (d : Directory) (c : Step) → StandsOn start bytes live s → IsRemoval live s dims i d c → IsStep bytes c
     → Covers (ranges c.commits.links) 100 → ⊥
+
+-- the undo of a removal
+abbrev pub ReturnStands : Type 0
+ReturnStands = (start bytes : List ℕ) (live : Live) (s : State) (formers : List Former) (i : ℕ) (p : Place) (x : Tile) (d : Directory) (l' : Layout) (c : Step) → StandsOn start bytes live s
+    → IsReturn start bytes live s formers i p x d l' c → IsStep bytes c
+    → (after_undo s ≡ Ok (returned bytes s formers i p x l')) × StandsOn start (made_of c bytes) (turned (with_directory d (into i x)) live) (returned bytes s formers i p x l')
+
+abbrev pub ReturnOpens : Type 0
+ReturnOpens = (start bytes image journal : List ℕ) (live : Live) (s : State) (formers : List Former) (i : ℕ) (p : Place) (x : Tile) (d : Directory) (l' : Layout) (c : Step) (high : AreHigh s) → StandsOn start bytes live s
+    → IsReturn start bytes live s formers i p x d l' c → IsStep bytes c
+    → StandsOr (view_of bytes s high) (made_of c bytes) image journal → EitherSide start image journal s (returned bytes s formers i p x l')
+
+abbrev pub ReturnTouches : Type 0
+ReturnTouches = (start bytes : List ℕ) (live : Live) (s : State) (formers : List Former) (i : ℕ) (p : Place) (x : Tile) (d : Directory) (l' : Layout) (c : Step) (high : AreHigh s) → StandsOn start bytes live s
+    → IsReturn start bytes live s formers i p x d l' c → IsStep bytes c → AlikeInItems (view_of bytes s high) (made_of c bytes)

@@ -2,7 +2,7 @@
 //! state of the machine of edits in an image beside its journal, and the laws of one commit.
 #![tactic(auto)]
 
-ghost use Rattle.czi_engine.specs.Laws.{DocumentOpens, ItselfRests, RestsStands, HeldStays, AloneShows, WrittenHasBytes, CommitLeaves100, RemovalLeaves100, HolesAreHigh, StandsOutside, RecoveredOpens, ViewOpens, OpenedStands, MadeWrote, CommitStands, CommitOpens, RemovalStands, RemovalOpens, FreeInView, ZerosInView, PlaceInView, CommitTouches, RemovalTouches};
+ghost use Rattle.czi_engine.specs.Laws.{DocumentOpens, ItselfRests, RestsStands, HeldStays, AloneShows, WrittenHasBytes, CommitLeaves100, RemovalLeaves100, HolesAreHigh, StandsOutside, RecoveredOpens, ViewOpens, OpenedStands, MadeWrote, CommitStands, CommitOpens, RemovalStands, RemovalOpens, FreeInView, ZerosInView, PlaceInView, ReturnStands, ReturnOpens, CommitTouches, RemovalTouches, ReturnTouches};
 
 mod engine;
 mod opening;
@@ -48,6 +48,12 @@ pub fn one_removal()
     ensures opens { RemovalOpens }
 {}
 
+/// The same of the undo of a removal.
+pub fn one_return()
+    ensures stands { ReturnStands }
+    ensures opens { ReturnOpens }
+{}
+
 /// What is written before a commit goes where nothing needs the bytes of the view: into free space, or
 /// past the end.
 pub fn writes_are_free()
@@ -61,6 +67,7 @@ pub fn writes_are_free()
 pub fn no_write_touches()
     ensures commit { CommitTouches }
     ensures removal { RemovalTouches }
+    ensures returned { ReturnTouches }
 {}
 
 /// Read without the journal, an image that a crash leaves shows a document of one side, or it says
