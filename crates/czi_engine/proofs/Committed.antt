@@ -67,7 +67,7 @@ commit_stands start bytes live s s' t c on plan is =
       tidy = stays_tidy s s' on.tidy plan.leads;
       settled = made_settled bytes other live s s' t (pieces_in c) on.lies on.tidy on.settled plan.leads plan.spans plan.plans.around.inside made.0 (omega (arith, made.1, is.least)) made.2;
       steady = λ was. let both = on.steady was in
-          ((planned bytes other s s' live plan.effect t (pieces_in c) both.0 both.1 plan.leads (lies_at s'.layout (turned t live) plan.spans (stays_sound s s' both.1 plan.leads).layout.walked.1) plan.document plan.plans made.0 long).1, stays_sound s s' both.1 plan.leads);
+          ((planned bytes other s s' live plan.effect t (pieces_in c) both.0 both.1 plan.leads plan.spans plan.document plan.plans made.0 long).1, stays_sound s s' both.1 plan.leads);
     }
 
 pub either_side : (start bytes other image journal : List ℕ) (live live' : Live) (s s' : State) (high : AreHigh s) → StandsOn start bytes live s → StandsOn start other live' s'
