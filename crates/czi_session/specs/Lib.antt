@@ -1,0 +1,4 @@
+pub mod Causes
+pub mod Course
+pub mod Ends
+pub mod Text
