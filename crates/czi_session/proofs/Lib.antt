@@ -1,0 +1,4 @@
+pub mod Counts
+pub mod Course
+pub mod Midway
+pub mod Spoken

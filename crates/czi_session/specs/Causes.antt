@@ -2,6 +2,8 @@
 use Rattle.std.specs.Prelude.{◌≡◌, ◌≢◌, ℕ, Result, Ok, Err}
 use Rattle.czi_rig.specs.State.{State}
 use Rattle.czi_rig.specs.Passes.{Rose}
+use Rattle.czi_script.specs.declared.error.ScriptError.{ScriptError}
+use Rattle.czi_script.specs.declared.error.ScriptError.TheVariants.{Fault as FaultError, Input as InputError, TooLong as TooLongError, Memory as MemoryError}
 use Rattle.czi_session.specs.declared.stop.EditorStop.{EditorStop}
 use Rattle.czi_session.specs.declared.stop.EditorStop.TheVariants.{Image as ImageOf, Journal as JournalOf, Memory as MemoryOf}
 use Rattle.czi_session.specs.declared.stop.OpenStop.{OpenStop}
@@ -16,6 +18,13 @@ abbrev pub stop_of : EditorStop → Stop
 stop_of ImageOf = Image
 stop_of JournalOf = Journal
 stop_of MemoryOf = Memory
+
+-- a reader's error, as a stop of a run
+abbrev pub stop_by : ScriptError → Stop
+stop_by (FaultError number kind) = Script number kind
+stop_by InputError = Input
+stop_by TooLongError = TooLong
+stop_by MemoryError = Memory
 
 -- an editor can't go on only so
 abbrev pub EditorStops : EditorStop → State → State → Type 0
@@ -52,3 +61,9 @@ abbrev pub EndsWithCause : Ended → State → State → ℕ → ℕ → Type 0
 EndsWithCause Done old new before now = Unit {0}
 EndsWithCause Refused old new before now = Unit {0}
 EndsWithCause (Stopped stop) old new before now = HasCauseIn stop old new before now
+
+-- opening the files and saying their refusal ends only so
+abbrev pub OpenedCauses : Ended → State → State → Type 0
+OpenedCauses Done old new = ⊥
+OpenedCauses Refused old new = Unit {0}
+OpenedCauses (Stopped stop) old new = StepCauses stop old new

@@ -1,8 +1,10 @@
 -- How a run ends.
-use Rattle.std.specs.Prelude.{◌≡◌, ◌⊎◌, ◌≢◌, ℕ, ◌+◌, ◌<◌, ◌≤◌, ◌^◌, List, [], ◌∷◌, ◌++◌, length, take, drop, Option, Some}
+use Rattle.std.specs.Prelude.{◌≡◌, ◌⊎◌, ◌≢◌, ℕ, ◌+◌, ◌<◌, ◌≤◌, ◌^◌, List, [], ◌∷◌, ◌++◌, length, take, drop, Option, Some, Result, Ok, Err}
+use Rattle.std.specs.Option.{ForSome}
 use Rattle.std.specs.List.{concat}
 use Rattle.czi_rig.specs.Disk.{Disk}
 use Rattle.czi_rig.specs.State.{State}
+use Rattle.czi_rig.specs.Moments.{Devices, devices}
 use Rattle.czi_rig.specs.Passes.{Rose}
 use Rattle.czi_script.specs.declared.kind.Kind.{Kind}
 use Rattle.czi_script.specs.Script.{Command, End, Done as DoneOf, Fault, SpellAll, HasNo}
@@ -134,15 +136,28 @@ TextCauses Journal number kind old new = ⊥
 TextCauses Input number kind old new = ⊥
 TextCauses TooLong number kind old new = ⊥
 
--- an opening stops so: nothing was said and nothing taken
+-- an opening of files that open stops so: nothing was said
+abbrev pub OpeningSays : State → List ℕ → Stop → Type 0
+OpeningSays state said Image = state.said ≡ Some said
+OpeningSays state said Journal = state.said ≡ Some said
+OpeningSays state said Memory = state.said ≡ Some said
+OpeningSays state said Output = ⊥
+OpeningSays state said Input = ⊥
+OpeningSays state said (Script number kind) = ⊥
+OpeningSays state said TooLong = ⊥
+
+abbrev pub OpeningEnds : State → List ℕ → Ended → Type 0
+OpeningEnds state said Done = ⊥
+OpeningEnds state said Refused = ⊥
+OpeningEnds state said (Stopped stop) = OpeningSays state said stop
+
+-- where all is known, the pair is one that is refused, and what was said is its text
+abbrev pub RefusedSo : Model → State → State → Type 0
+RefusedSo m old new = (all : Devices) → devices old ≡ Some all → (text : List ℕ) × m.refuses all.image.seen all.journal.seen text × (new.said ≡ Some (all.said ++ text))
+
+-- the same, with nothing taken
 abbrev pub OpeningStops : State → Option (List ℕ) → List ℕ → List ℕ → Stop → Type 0
-OpeningStops state left said all Image = (state.said ≡ Some said) × (left ≡ Some all)
-OpeningStops state left said all Journal = (state.said ≡ Some said) × (left ≡ Some all)
-OpeningStops state left said all Memory = (state.said ≡ Some said) × (left ≡ Some all)
-OpeningStops state left said all Output = ⊥
-OpeningStops state left said all Input = ⊥
-OpeningStops state left said all (Script number kind) = ⊥
-OpeningStops state left said all TooLong = ⊥
+OpeningStops state left said all stop = OpeningSays state said stop × (left ≡ Some all)
 
 -- a run that could open ends so
 abbrev pub EndsSo : (m : Model) → State → Option (List ℕ) → m.Document → List Command → End → List ℕ → List ℕ → Ended → Type 0
@@ -160,3 +175,29 @@ pub record Quiet (old new : State) (before now : ℕ) : Type 0 where
 -- a run ends so, or finds no memory
 abbrev pub Answers : Ended → Ended → Type 0
 Answers wanted ended = (ended ≡ wanted) ⊎ (ended ≡ Stopped Memory)
+
+-- How many bytes of an input are taken: at most 2^40, and one more where that shows that it goes on.
+abbrev pub most_by : Stop → ℕ
+most_by (Script number kind) = 2 ^ 40
+most_by Image = 2 ^ 40
+most_by Journal = 2 ^ 40
+most_by Output = 2 ^ 40
+most_by Input = 2 ^ 40
+most_by Memory = 2 ^ 40
+most_by TooLong = 2 ^ 40 + 1
+
+abbrev pub most_taken : Result (Unit {0}) Stop → ℕ
+most_taken (Ok done) = 2 ^ 40
+most_taken (Err stop) = most_by stop
+
+abbrev pub most_of : Ended → ℕ
+most_of Done = 2 ^ 40
+most_of Refused = 0
+most_of (Stopped stop) = most_by stop
+
+-- the first of the bytes that were left were taken, at most so many
+pub record Takes (before after : Option (List ℕ)) (most : ℕ) : Type 0 where
+  pub count : ℕ
+  pub few : count ≤ most
+  pub inside : ForSome before (λ bytes. count ≤ length bytes)
+  pub rest : ForSome before (λ bytes. after ≡ Some (drop count bytes))

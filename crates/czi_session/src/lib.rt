@@ -2,8 +2,11 @@
 //! its whole reply, and only then reads on; at the end it seals the journal.
 #![tactic(auto)]
 
+mod commands;
 mod editor;
+mod steps;
 mod stop;
+mod text;
 
 pub use editor::Editor;
 pub use stop::{EditorStop, Ended, OpenStop, Stop};
