@@ -1,4 +1,5 @@
 pub mod Counts
 pub mod Course
+pub mod Ending
 pub mod Midway
 pub mod Spoken

@@ -1,5 +1,5 @@
 -- A run goes on.
-use Rattle.std.proofs.Common.{◌≡◌, inl, inr, ℕ, ◌+◌, ◌-◌, ◌<◌, ◌≤◌, List, [], ◌∷◌, ◌++◌, length, take, drop, Option, Some, None, sym, ap, refl, ◌∙◌, arith, subst, append_assoc, length-append}
+use Rattle.std.proofs.Common.{◌≡◌, inl, inr, ℕ, ◌+◌, ◌-◌, ◌<◌, ◌≤◌, List, [], ◌∷◌, ◌++◌, length, take, drop, Option, Some, None, Result, Ok, Err, zero-le, sym, ap, refl, ◌∙◌, arith, subst, append_assoc, length-append}
 use Rattle.std.specs.List.{concat}
 use Rattle.std.specs.Option.{ForSome}
 use Rattle.std.specs.Prelude.{◌^◌, option_map}
@@ -16,7 +16,7 @@ use Rattle.czi_script.specs.declared.kind.Kind.{Kind}
 use Rattle.czi_script.specs.declared.error.ScriptError.{ScriptError}
 use Rattle.czi_script.specs.declared.error.ScriptError.TheVariants.{Fault as FaultError, Input as InputError, TooLong as TooLongError, Memory as MemoryError}
 use Rattle.czi_script.specs.Script.{Command, End, Done, Reads, Spells, SpellAll, HasNo}
-use Rattle.czi_script.specs.Reader.{Reader, IsReader, ahead, unused, room, FindsError, FindsSome, LeavesSome, LeavesError, CountsError, TakesFirst}
+use Rattle.czi_script.specs.Reader.{Reader, IsReader, ahead, unused, room, FindsError, FindsSome, LeavesSome, LeavesError, CountsError, TakesFirst, lost_by}
 use Rattle.czi_script.specs.View.{command_of}
 use Rattle.czi_script.specs.Course.{StopsSo, Midway as InScript}
 use Rattle.czi_script.proofs.Course.{over, stops}
@@ -26,7 +26,7 @@ use Rattle.czi_session.specs.declared.stop.Stop.{Stop}
 use Rattle.czi_session.specs.declared.stop.Stop.TheVariants.{Script, Image, Journal, Output, Input, Memory, TooLong}
 use Rattle.czi_session.specs.Causes.{stop_by}
 use Rattle.czi_session.specs.Course.{Model, Stands, Starts, OpensToPrefix, OpensWhatever, OpensNow, WithinStep, state_after, replies}
-use Rattle.czi_session.specs.Ends.{AllDone, Between, EachTaken, Failing, Beyond, Inside, Whole, StepStops, StopsAt}
+use Rattle.czi_session.specs.Ends.{AllDone, Between, EachTaken, Failing, Beyond, Inside, Whole, StepStops, StopsAt, Takes, most_by, most_taken}
 use Rattle.czi_session.proofs.Course.{state_more, spoken_more, prefix_step}
 use Rattle.czi_session.proofs.Spoken.{stands_open}
 
@@ -217,3 +217,40 @@ taken_more first before after old new more so_far t = λ all is.
       omega (arith, was.0, t.later, t.inside (drop old.taken all) was.1, length-drop old.taken all),
       t.rest (drop old.taken all) was.1 ∙ ap (λ (x : List ℕ). Some x) (drop-drop ((new.taken - old.taken) + more) old.taken all ∙ ap (λ (x : ℕ). drop x all) k),
     )
+
+pub taken_on : (first before after : Option (List ℕ)) (old new : Reader) → TakenSoFar first before old.taken → TakesFirst old new before after 0 → TakenSoFar first after new.taken
+taken_on first before after old new so_far t = subst (λ k. TakenSoFar first after k) (none new.taken) (taken_more first before after old new 0 so_far t)
+  where
+    none : (n : ℕ) → n + 0 ≡ n
+    none n = omega arith
+
+pub taken_first : (left : Option (List ℕ)) (reader : Reader) → reader ≡ unused → TakenSoFar left left reader.taken
+taken_first left reader is = subst (λ r. TakenSoFar left left r.taken) (sym is) (λ all e. (zero-le, e))
+
+pub sound_first : (reader : Reader) → reader ≡ unused → IsReader reader
+sound_first reader is = subst (λ r. IsReader r) (sym is) (record { counted = zero-le; few = zero-le })
+
+pub most_any : (result : Result (Unit {0}) Stop) → 2 ^ 40 ≤ most_taken result
+most_any (Ok u) = omega arith
+most_any (Err (Script n kind)) = omega arith
+most_any (Err Image) = omega arith
+most_any (Err Journal) = omega arith
+most_any (Err Output) = omega arith
+most_any (Err Input) = omega arith
+most_any (Err Memory) = omega arith
+most_any (Err TooLong) = omega arith
+
+pub takes_more : (before after : Option (List ℕ)) (most more : ℕ) → most ≤ more → Takes before after most → Takes before after more
+takes_more before after most more le t = record { count = t.count; few = omega (arith, le, t.few); inside = t.inside; rest = t.rest }
+
+taken_by : (before now : Option (List ℕ)) (n most : ℕ) → n ≤ most → TakenSoFar before now n → Takes before now most
+taken_by before now n most le t = record { count = n; few = le; inside = λ all is. (t all is).0; rest = λ all is. (t all is).1 }
+
+pub takes_any : (before after : Option (List ℕ)) (reader : Reader) → IsReader reader → TakenSoFar before after reader.taken → (result : Result (Unit {0}) Stop) → Takes before after (most_taken result)
+takes_any before after reader sound t result = takes_more before after (2 ^ 40) (most_taken result) (most_any result) (taken_by before after reader.taken (2 ^ 40) sound.few t)
+
+pub takes_stopped : (first before after : Option (List ℕ)) (old new : Reader) (error : ScriptError) → IsReader new → TakenSoFar first before old.taken → TakesFirst old new before after (lost_by error) → Takes first after (most_by (stop_by error))
+takes_stopped first before after old new (FaultError n kind) sound so_far t = takes_any first after new sound (taken_on first before after old new so_far t) (Err (Script n kind))
+takes_stopped first before after old new InputError sound so_far t = takes_any first after new sound (taken_on first before after old new so_far t) (Err Input)
+takes_stopped first before after old new MemoryError sound so_far t = takes_any first after new sound (taken_on first before after old new so_far t) (Err Memory)
+takes_stopped first before after old new TooLongError sound so_far t = taken_by first after (new.taken + 1) (2 ^ 40 + 1) (omega (arith, sound.few)) (taken_more first before after old new 1 so_far t)

@@ -201,3 +201,13 @@ pub record Takes (before after : Option (List ℕ)) (most : ℕ) : Type 0 where
   pub few : count ≤ most
   pub inside : ForSome before (λ bytes. count ≤ length bytes)
   pub rest : ForSome before (λ bytes. after ≡ Some (drop count bytes))
+
+-- One command alone stops so: inside it, or at the sealing.
+abbrev pub OneStops : (m : Model) → State → m.Document → Command → List ℕ → Stop → Type 0
+OneStops m state s c before stop = StepStops m (OpensWhatever m) state s c before stop ⊎ ((stop ≡ Journal) × (state.said ≡ Some (before ++ m.reply s c)))
+
+-- a run of one command that could open ends so
+abbrev pub OneEnds : (m : Model) → State → m.Document → Command → List ℕ → Ended → Type 0
+OneEnds m state s c before Done = Stands m (OpensWhatever m) state (before ++ m.reply s c) (m.after s c)
+OneEnds m state s c before Refused = ⊥
+OneEnds m state s c before (Stopped stop) = OpeningSays state before stop ⊎ OneStops m state s c before stop

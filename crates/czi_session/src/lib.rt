@@ -7,6 +7,8 @@ mod editor;
 mod steps;
 mod stop;
 mod text;
+mod top;
 
 pub use editor::Editor;
 pub use stop::{EditorStop, Ended, OpenStop, Stop};
+pub use top::{edit, one};
