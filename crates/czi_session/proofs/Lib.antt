@@ -3,3 +3,4 @@ pub mod Course
 pub mod Ending
 pub mod Midway
 pub mod Spoken
+mod Trials

@@ -2,3 +2,4 @@ pub mod Causes
 pub mod Course
 pub mod Ends
 pub mod Text
+pub mod Trials

@@ -47,7 +47,13 @@ pub trait Editor: Drop {
     /// # Errors
     ///
     /// A fault of a file whose count rose, or want of memory.
-    fn perform<R: Rig>(&mut self, alloc: Global, rig: &mut R, command: &Command, reply: &mut Vec<u8>) -> Result<(), EditorStop>
+    fn perform<R: Rig>(
+        &mut self,
+        alloc: Global,
+        rig: &mut R,
+        command: &Command,
+        reply: &mut Vec<u8>,
+    ) -> Result<(), EditorStop>
         ensures moments { (said : List ℕ) (s : model.Document) → Stands model (stands self.old) (R.state rig.old) said s →
             Throughout R.Rig rig.old rig.new (EitherSide model s (command_of command.now) said) }
         ensures ok { OnOk result ((said : List ℕ) (s : model.Document) → Stands model (stands self.old) (R.state rig.old) said s →

@@ -1,9 +1,9 @@
 //! How a run ends.
 
-use czi_script::Kind;
 ghost use Rattle.std.specs.Prelude.{◌≡◌};
 ghost use Rattle.czi_session.specs.Causes.{stop_of};
 
+use czi_script::Kind;
 
 /// Why an editor can't go on with a command.
 #[derive(Clone, Copy, Debug, PartialEq, Eq)]

@@ -33,5 +33,5 @@ returns-in-Ok-clause-stops g c = λ said s h.
       some.0,
       rw (ap (λ (x : List ℕ). length x) is) at some.1,
       stands_open m (g.E.Editor.stands c.perform.new.self) (g.met.E.Editor.opens_now c.perform.new.self) (g.R.Rig.state c.say.new.self) _ _
-      (said_stands m (g.E.Editor.stands c.perform.new.self) (g.R.Rig.state c.perform.new.rig) (g.R.Rig.state c.say.new.self) said _ _ _ done.1 (ap (λ (x : List ℕ). take some.0 x) is) c.say.ensures.files some.2),
+          (said_stands m (g.E.Editor.stands c.perform.new.self) (g.R.Rig.state c.perform.new.rig) (g.R.Rig.state c.say.new.self) said _ _ _ done.1 (ap (λ (x : List ℕ). take some.0 x) is) c.say.ensures.files some.2),
     )
