@@ -85,6 +85,7 @@ fn check(
 
 #[test]
 fn each_script_ends_as_it_reads(rt: HostRuntime) -> Result<(), Fail> {
+    let alloc = rt.alloc();
     let rows: [(&[u8], (Ended, &[u8], usize)); 7] = [
         (b"", (Ended::Done, b"", 2)),
         (b"list\n", (Ended::Done, b"ok\n", 3)),
@@ -126,15 +127,16 @@ fn each_script_ends_as_it_reads(rt: HostRuntime) -> Result<(), Fail> {
         ),
     ];
     for (script, want) in rows {
-        let mut rig = MemRig::new(rt.alloc, b"II", b"")?;
-        let mut input = MemSource::new(rt.alloc, script)?;
-        check(&rt, rt.alloc, &mut rig, &mut input, want)?;
+        let mut rig = MemRig::new(alloc, b"II", b"")?;
+        let mut input = MemSource::new(alloc, script)?;
+        check(&rt, alloc, &mut rig, &mut input, want)?;
     }
     Ok(())
 }
 
 #[test]
 fn each_failed_call_ends_the_run(rt: HostRuntime) -> Result<(), Fail> {
+    let alloc = rt.alloc();
     let rows: [(u64, (Ended, &[u8], usize)); 7] = [
         (0, (Ended::Stopped(Stop::Image), b"", 2)),
         (1, (Ended::Stopped(Stop::Journal), b"", 2)),
@@ -145,44 +147,46 @@ fn each_failed_call_ends_the_run(rt: HostRuntime) -> Result<(), Fail> {
         (10, (Ended::Done, b"ok\nok\n", 4)),
     ];
     for (failing, want) in rows {
-        let mut rig = MemRig::new(rt.alloc, b"II", b"")?;
+        let mut rig = MemRig::new(alloc, b"II", b"")?;
         rig.fail_call(failing)?;
-        let mut input = MemSource::new(rt.alloc, b"list\ninfo\n")?;
-        check(&rt, rt.alloc, &mut rig, &mut input, want)?;
+        let mut input = MemSource::new(alloc, b"list\ninfo\n")?;
+        check(&rt, alloc, &mut rig, &mut input, want)?;
     }
     Ok(())
 }
 
 #[test]
 fn a_failed_input_ends_the_run(rt: HostRuntime) -> Result<(), Fail> {
+    let alloc = rt.alloc();
     let rows: [(u64, (Ended, &[u8], usize)); 2] = [
         (0, (Ended::Stopped(Stop::Input), b"", 2)),
         (1, (Ended::Stopped(Stop::Input), b"ok\nok\n", 4)),
     ];
     for (failing, want) in rows {
-        let mut rig = MemRig::new(rt.alloc, b"II", b"")?;
-        let mut input = MemSource::new(rt.alloc, b"list\ninfo\n")?;
+        let mut rig = MemRig::new(alloc, b"II", b"")?;
+        let mut input = MemSource::new(alloc, b"list\ninfo\n")?;
         input.fail_call(failing)?;
-        check(&rt, rt.alloc, &mut rig, &mut input, want)?;
+        check(&rt, alloc, &mut rig, &mut input, want)?;
     }
     Ok(())
 }
 
 #[test]
 fn one_command_is_done_alone(rt: HostRuntime) -> Result<(), Fail> {
-    let mut rig = MemRig::new(rt.alloc, b"II", b"")?;
+    let alloc = rt.alloc();
+    let mut rig = MemRig::new(alloc, b"II", b"")?;
     assert_eq!(rt;
-        one::<Counter, MemRig>(rt.alloc, &mut rig, &Command::List),
+        one::<Counter, MemRig>(alloc, &mut rig, &Command::List),
         Ended::Done
     );
-    assert_eq!(rt; rig.said(), b"ok\n");
+    assert_eq!(rt; rig.said(), b"ok\n".as_slice());
     assert_eq!(rt; rig.content(File::Image).len(), 3);
-    let mut failing = MemRig::new(rt.alloc, b"II", b"")?;
+    let mut failing = MemRig::new(alloc, b"II", b"")?;
     failing.fail_call(5)?;
     assert_eq!(rt;
-        one::<Counter, MemRig>(rt.alloc, &mut failing, &Command::Info),
+        one::<Counter, MemRig>(alloc, &mut failing, &Command::Info),
         Ended::Stopped(Stop::Output)
     );
-    assert_eq!(rt; failing.said(), b"ok");
+    assert_eq!(rt; failing.said(), b"ok".as_slice());
     Ok(())
 }
