@@ -1,0 +1,6 @@
+pub mod Counts
+pub mod Course
+pub mod Ending
+pub mod Midway
+pub mod Spoken
+mod Trials

@@ -1,0 +1,49 @@
+-- A count whose files were synced, and one byte more.
+use Rattle.std.proofs.Common.{◌≡◌, ℕ, ◌+◌, List, [], ◌∷◌, length, refl, ◌∙◌, ap, arith}
+use Rattle.std.specs.Prelude.{option_map}
+use Rattle.std.specs.Option.{ForSome}
+use Rattle.std.proofs.lemmas.Grind.{common_steps}
+use Rattle.czi_rig.specs.declared.rig.Rig.{Ghosts}
+use Rattle.czi_rig.specs.declared.file.File.TheVariants.{Image}
+use Rattle.czi_rig.specs.Disk.{Disk, at_rest, overwritten}
+use Rattle.czi_rig.specs.State.{State, Instant, SameAll, LeavesOther, known, seen_of}
+use Rattle.czi_rig.specs.Moments.{Devices, Run, OnlyNow}
+use Rattle.czi_rig.proofs.Files.{left_settled}
+use Rattle.czi_rig.proofs.Known.{same_known, file_known, known_file, known_seen}
+use Rattle.czi_rig.proofs.Runs.{started, always}
+use Rattle.czi_session.specs.Course.{Opening, Stands, Open, From}
+use Rattle.czi_session.specs.Trials.{counting, Counts}
+
+abbrev pub No : Instant
+No image journal said = ⊥
+
+abbrev pub resting : Devices → Devices
+resting all = record { image = at_rest all.image.seen; journal = at_rest all.journal.seen; said = all.said }
+
+module _ {D : Type 0} (rig : Ghosts D) (only : OnlyNow rig) (old new : D) (said : List ℕ) (s : ℕ) (h : Opening counting (rig.state old) said s) (r : Run rig old new (resting h.now) No) where
+  pub opened : From rig old new (Open counting s said)
+  opened = record {
+    then = new;
+    before = r.moments;
+    after = started rig new (Open counting s said);
+    always = always rig (resting h.now) only r.known (started rig new (Open counting s said))
+        (λ i j o l. (ap (λ (x : List ℕ). length x) (left_settled h.now.image.seen i l.image_is) ∙ h.opens, l.said_is ∙ h.said_is));
+  }
+
+  pub stood : Stands counting Counts (rig.state new) said s
+  stood = record { now = resting h.now; known = r.known; said_is = h.said_is; stands = record { rest = refl; count = h.opens } }
+
+length_more : (seen : List ℕ) (at : ℕ) → at ≡ length seen → length (overwritten at (0 ∷ []) seen) ≡ length seen + 1
+length_more seen at is = grind (arith, common_steps)
+
+pub one_more : (old mid new : State) (said : List ℕ) (s : ℕ) (at : ℕ) (h : Stands counting Counts old said s) → ForSome (seen_of old Image) (λ seen. at ≡ length seen) → SameAll old mid → LeavesOther Image mid new
+    → known new Image ≡ option_map (λ (disk : Disk). at_rest (overwritten at (0 ∷ []) disk.seen)) (known mid Image) → Stands counting Counts new said (s + 1)
+one_more old mid new said s at h at_is same other is =
+    let here = same_known old mid h.now h.known same in
+    let length_is : at ≡ length h.now.image.seen = at_is h.now.image.seen (known_seen old Image h.now h.known) in
+    record {
+      now = _;
+      known = file_known mid new Image h.now _ here other (is ∙ ap (option_map (λ (disk : Disk). at_rest (overwritten at (0 ∷ []) disk.seen))) (known_file mid Image h.now here));
+      said_is = h.said_is;
+      stands = record { rest = refl; count = length_more h.now.image.seen at length_is ∙ ap (λ (n : ℕ). n + 1) h.stands.count };
+    }

@@ -1,0 +1,113 @@
+use Rattle.std.proofs.Common.{arith, ap, Ok}
+use Rattle.std.proofs.lemmas.Result.{err_from_is_err_and}
+use Rattle.czi_rig.proofs.Known.{goes_then}
+use Rattle.czi_rig.proofs.Runs.{started}
+use Rattle.czi_session.proofs.Midway.{midway_begins, midway_next, moments_next, reader_stops, step_stops, whole, taken_first, sound_first, taken_on, takes_any, takes_stopped}
+use Rattle.czi_session.proofs.commands.commands.Goals as goal
+
+pub loop-command-init : goal.loop-command-init
+loop-command-init g c = record {
+  midway = λ cs end said s h. midway_begins g.E.Editor.model (g.E.Editor.stands c.args.editor.now) c.in-Ok.reader (g.S.Source.input c.args.input.now).left (g.R.Rig.state c.args.rig.now) s cs end said c.in-Ok.ensures h;
+  moments = λ cs end said s h last. started g.R.Rig c.args.rig.now _;
+  taken = taken_first _ c.in-Ok.reader c.in-Ok.ensures;
+  sound = sound_first c.in-Ok.reader c.in-Ok.ensures;
+  none = ap (λ r. r.error) c.in-Ok.ensures;
+  goes_on = search arith;
+  later = omega arith;
+}
+
+pub loop-command-preserved-in_ok-step-in-Ok-Some : goal.loop-command-preserved-in_ok-step-in-Ok-Some
+loop-command-preserved-in_ok-step-in-Ok-Some g c =
+    let m = g.E.Editor.model in
+    let inv = c.loop-command.invariant in
+    let on = g.E.Editor.stands c.loop-command.editor in
+    let left = (g.S.Source.input c.loop-command.input).left in
+    let leaves = rw c.in-Ok-Some.field-0-is at (c.in-Ok-Some.ensures.leaves inv.none) in
+    let count = rw c.in-Ok-Some.field-0-is at (c.in-Ok-Some.ensures.counts inv.none) in
+    record {
+      midway = λ cs end said s h. midway_next m on c.loop-command.reader left (g.R.Rig.state c.loop-command.rig) s cs end said h.input (inv.midway cs end said s h) c.in-Ok-Some.command c.next.new.self _ leaves
+          (g.E.Editor.stands c.step.new.editor) (g.R.Rig.state c.step.new.rig) count c.in_ok-step-in-Ok-Some.ensures.ok;
+      moments = λ cs end said s h last. moments_next m on c.loop-command.reader left (g.R.Rig.state c.loop-command.rig) s cs end said h.input (inv.midway cs end said s h) c.in-Ok-Some.command c.next.new.self _ leaves
+          g.met.E.Editor.says_something g.R.Rig c.args.rig.now c.loop-command.rig c.step.new.rig last (inv.moments cs end said s h last) c.step.ensures.moments;
+      taken = taken_on _ left _ c.loop-command.reader c.next.new.self inv.taken (c.in-Ok-Some.ensures.takes inv.none);
+      sound = c.next.ensures.sound;
+      none = c.in-Ok-Some.ensures.keeps;
+      goes_on = goes_then _ _ _ inv.goes_on c.step.ensures.goes_on;
+      later = omega (arith, inv.later, c.next.ensures.later);
+    }
+
+pub loop-command-preserved : goal.loop-command-preserved
+loop-command-preserved g c =
+    let m = g.E.Editor.model in
+    let inv = c.loop-command.invariant in
+    let on = g.E.Editor.stands c.loop-command.editor in
+    let left = (g.S.Source.input c.loop-command.input).left in
+    let leaves = rw c.in-Ok-Some.field-0-is at (c.in-Ok-Some.ensures.leaves inv.none) in
+    let count = rw c.in-Ok-Some.field-0-is at (c.in-Ok-Some.ensures.counts inv.none) in
+    record {
+      midway = λ cs end said s h. midway_next m on c.loop-command.reader left (g.R.Rig.state c.loop-command.rig) s cs end said h.input (inv.midway cs end said s h) c.in-Ok-Some.command c.next.new.self _ leaves
+          (g.E.Editor.stands c.step.new.editor) (g.R.Rig.state c.step.new.rig) count c.in_ok-step-in-Ok-Some.ensures.ok;
+      moments = λ cs end said s h last. moments_next m on c.loop-command.reader left (g.R.Rig.state c.loop-command.rig) s cs end said h.input (inv.midway cs end said s h) c.in-Ok-Some.command c.next.new.self _ leaves
+          g.met.E.Editor.says_something g.R.Rig c.args.rig.now c.loop-command.rig c.step.new.rig last (inv.moments cs end said s h last) c.step.ensures.moments;
+      taken = taken_on _ left _ c.loop-command.reader c.next.new.self inv.taken (c.in-Ok-Some.ensures.takes inv.none);
+      sound = c.next.ensures.sound;
+      none = c.in-Ok-Some.ensures.keeps;
+      goes_on = goes_then _ _ _ inv.goes_on c.step.ensures.goes_on;
+      later = omega (arith, inv.later, c.next.ensures.later);
+    }
+
+pub returns-in_err-step-in-Ok-Some-clause-moments : goal.returns-in_err-step-in-Ok-Some-clause-moments
+returns-in_err-step-in-Ok-Some-clause-moments g c = λ cs end said s h last.
+    let m = g.E.Editor.model in
+    let inv = c.loop-command.invariant in
+    let on = g.E.Editor.stands c.loop-command.editor in
+    let left = (g.S.Source.input c.loop-command.input).left in
+    let leaves = rw c.in-Ok-Some.field-0-is at (c.in-Ok-Some.ensures.leaves inv.none) in
+    moments_next m on c.loop-command.reader left (g.R.Rig.state c.loop-command.rig) s cs end said h.input (inv.midway cs end said s h) c.in-Ok-Some.command c.next.new.self _ leaves
+    g.met.E.Editor.says_something g.R.Rig c.args.rig.now c.loop-command.rig c.step.new.rig last (inv.moments cs end said s h last) c.step.ensures.moments
+
+pub returns-in_err-step-in-Ok-Some-clause-ends : goal.returns-in_err-step-in-Ok-Some-clause-ends
+returns-in_err-step-in-Ok-Some-clause-ends g c = λ cs end said s h.
+    let p = err_from_is_err_and c.from_residual.result c.from_residual.ensures.1 in
+    let m = g.E.Editor.model in
+    let inv = c.loop-command.invariant in
+    let on = g.E.Editor.stands c.loop-command.editor in
+    let left = (g.S.Source.input c.loop-command.input).left in
+    let leaves = rw c.in-Ok-Some.field-0-is at (c.in-Ok-Some.ensures.leaves inv.none) in
+    rw (p.1, p.2) (step_stops m on c.loop-command.reader left (g.R.Rig.state c.loop-command.rig) s cs end said h.input (inv.midway cs end said s h) c.in-Ok-Some.command c.next.new.self _ leaves
+    (g.R.Rig.state c.step.new.rig) (g.S.Source.input c.next.new.input).left _ c.in_err-step-in-Ok-Some.ensures.stops)
+
+pub returns-in_err-step-in-Ok-Some-clause-takes : goal.returns-in_err-step-in-Ok-Some-clause-takes
+returns-in_err-step-in-Ok-Some-clause-takes g c =
+    let inv = c.loop-command.invariant in
+    takes_any _ _ c.next.new.self c.next.ensures.sound (taken_on _ (g.S.Source.input c.loop-command.input).left _ c.loop-command.reader c.next.new.self inv.taken (c.in-Ok-Some.ensures.takes inv.none)) c.from_residual.result
+
+pub returns-in-Ok-None-clause-ends : goal.returns-in-Ok-None-clause-ends
+returns-in-Ok-None-clause-ends g c = λ cs end said s h.
+    let m = g.E.Editor.model in
+    let inv = c.loop-command.invariant in
+    let on = g.E.Editor.stands c.loop-command.editor in
+    let left = (g.S.Source.input c.loop-command.input).left in
+    let leaves = rw c.in-Ok-None.field-0-is at (c.in-Ok-None.ensures.leaves inv.none) in
+    let finds = rw c.in-Ok-None.field-0-is at (c.in-Ok-None.ensures.finds inv.none) in
+    whole m on c.loop-command.reader left (g.R.Rig.state c.loop-command.rig) s cs end said h.input (inv.midway cs end said s h) inv.sound c.next.new.self (g.S.Source.input c.next.new.input).left finds leaves
+
+pub returns-in-Ok-None-clause-takes : goal.returns-in-Ok-None-clause-takes
+returns-in-Ok-None-clause-takes g c =
+    let inv = c.loop-command.invariant in
+    takes_any _ _ c.next.new.self c.next.ensures.sound (taken_on _ (g.S.Source.input c.loop-command.input).left _ c.loop-command.reader c.next.new.self inv.taken (c.in-Ok-None.ensures.takes inv.none)) (Ok tt)
+
+pub returns-in-Err-clause-ends : goal.returns-in-Err-clause-ends
+returns-in-Err-clause-ends g c = λ cs end said s h.
+    let m = g.E.Editor.model in
+    let inv = c.loop-command.invariant in
+    let on = g.E.Editor.stands c.loop-command.editor in
+    let left = (g.S.Source.input c.loop-command.input).left in
+    let e = c.in-Err.ensures in
+    rw c.stop_by.ensures (reader_stops m on c.loop-command.reader left (g.R.Rig.state c.loop-command.rig) s cs end said h.input (inv.midway cs end said s h) (g.met.E.Editor.opens_now c.loop-command.editor) inv.sound c.next.new.self
+    (g.S.Source.input c.next.new.input).left (e.counts inv.none).0 c.in-Err.error (e.finds inv.none) (e.leaves inv.none) (e.counts inv.none).1)
+
+pub returns-in-Err-clause-takes : goal.returns-in-Err-clause-takes
+returns-in-Err-clause-takes g c =
+    let inv = c.loop-command.invariant in
+    rw c.stop_by.ensures (takes_stopped _ (g.S.Source.input c.loop-command.input).left _ c.loop-command.reader c.next.new.self c.in-Err.error c.next.ensures.sound inv.taken (c.in-Err.ensures.takes inv.none))

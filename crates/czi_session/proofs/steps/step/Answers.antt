@@ -1,0 +1,37 @@
+use Rattle.std.proofs.Common.{inl, ◌∙◌, ap, take, List, ◌++◌, ℕ, length}
+use Rattle.czi_rig.proofs.Runs.{weaker}
+use Rattle.czi_script.specs.View.{command_of}
+use Rattle.czi_session.proofs.Spoken.{step_says, said_stands, stands_open}
+use Rattle.czi_session.proofs.steps.step.Goals as goal
+
+pub returns-clause-moments : goal.returns-clause-moments
+returns-clause-moments g c = λ said s h. weaker g.R.Rig (λ i j o p. inl p) (c.perform.ensures.moments said s h)
+
+pub returns-in-Ok-say-clause-moments : goal.returns-in-Ok-say-clause-moments
+returns-in-Ok-say-clause-moments g c = λ said s h.
+    let done = c.in-Ok.ensures.ok said s h in
+    step_says g.R.Rig g.E.Editor.model (g.E.Editor.stands c.perform.new.self) (g.met.E.Editor.opens_now c.perform.new.self) s (command_of c.args.command.now) said _
+    (c.perform.ensures.moments said s h) done.1 (c.deref.ensures.value ∙ done.0 ∙ ap (λ (x : List ℕ). x ++ g.E.Editor.model.reply s (command_of c.args.command.now)) c.new-reply.ensures.items) c.say.ensures.time
+
+pub returns-in-Ok-clause-moments : goal.returns-in-Ok-clause-moments
+returns-in-Ok-clause-moments g c = λ said s h.
+    let done = c.in-Ok.ensures.ok said s h in
+    step_says g.R.Rig g.E.Editor.model (g.E.Editor.stands c.perform.new.self) (g.met.E.Editor.opens_now c.perform.new.self) s (command_of c.args.command.now) said _
+    (c.perform.ensures.moments said s h) done.1 (c.deref.ensures.value ∙ done.0 ∙ ap (λ (x : List ℕ). x ++ g.E.Editor.model.reply s (command_of c.args.command.now)) c.new-reply.ensures.items) c.say.ensures.time
+
+pub returns-in-Ok-say-clause-ok : goal.returns-in-Ok-say-clause-ok
+returns-in-Ok-say-clause-ok g c = λ said s h.
+    let done = c.in-Ok.ensures.ok said s h in
+    said_stands g.E.Editor.model (g.E.Editor.stands c.perform.new.self) (g.R.Rig.state c.perform.new.rig) (g.R.Rig.state c.say.new.self) said _ _ _ done.1 (c.deref.ensures.value ∙ done.0 ∙ ap (λ (x : List ℕ). x ++ g.E.Editor.model.reply s (command_of c.args.command.now)) c.new-reply.ensures.items) c.say.ensures.files c.in-Ok-say.ensures.said
+
+pub returns-in-Ok-clause-stops : goal.returns-in-Ok-clause-stops
+returns-in-Ok-clause-stops g c = λ said s h.
+    let done = c.in-Ok.ensures.ok said s h in
+    let some = c.in-Err-say.ensures.said in
+    let is = c.deref.ensures.value ∙ done.0 ∙ ap (λ (x : List ℕ). x ++ g.E.Editor.model.reply s (command_of c.args.command.now)) c.new-reply.ensures.items in
+    let m = g.E.Editor.model in (
+      some.0,
+      rw (ap (λ (x : List ℕ). length x) is) at some.1,
+      stands_open m (g.E.Editor.stands c.perform.new.self) (g.met.E.Editor.opens_now c.perform.new.self) (g.R.Rig.state c.say.new.self) _ _
+          (said_stands m (g.E.Editor.stands c.perform.new.self) (g.R.Rig.state c.perform.new.rig) (g.R.Rig.state c.say.new.self) said _ _ _ done.1 (ap (λ (x : List ℕ). take some.0 x) is) c.say.ensures.files some.2),
+    )

@@ -1,0 +1,26 @@
+use Rattle.std.proofs.Common.{inl}
+use Rattle.czi_rig.proofs.Runs.{joined, weaker}
+use Rattle.czi_script.specs.View.{command_of}
+use Rattle.czi_session.proofs.Ending.{one_within, one_sealed, one_ends, one_cause}
+use Rattle.czi_session.proofs.top.single.Goals as goal
+
+pub returns-in-Ok-clause-moments : goal.returns-in-Ok-clause-moments
+returns-in-Ok-clause-moments g c = λ said s h.
+    let m = g.E.Editor.model in
+    let k = command_of c.args.command.now in
+    joined g.R.Rig (weaker g.R.Rig (one_within m g.met.E.Editor.says_something s k said) (c.step.ensures.moments said s h))
+    (weaker g.R.Rig (one_sealed m g.met.E.Editor.says_something s k said) (c.sealed.ensures.moments _ _ (c.in-Ok.ensures.ok said s h)))
+
+pub returns-in-Ok-clause-ends : goal.returns-in-Ok-clause-ends
+returns-in-Ok-clause-ends g c = λ said s h.
+    one_ends g.E.Editor.model (g.R.Rig.state c.sealed.new.rig) s (command_of c.args.command.now) said c.sealed.result (g.R.Rig.state c.step.new.rig) _ (c.in-Ok.ensures.ok said s h) c.sealed.ensures.said c.sealed.ensures.ok c.sealed.ensures.cause
+
+pub returns-in-Ok-clause-cause : goal.returns-in-Ok-clause-cause
+returns-in-Ok-clause-cause g c = one_cause c.sealed.result (g.R.Rig.state c.args.rig.now) (g.R.Rig.state c.step.new.rig) (g.R.Rig.state c.sealed.new.rig) c.step.ensures.goes_on.journal_faults c.sealed.ensures.cause
+
+pub returns-in-Err-clause-moments : goal.returns-in-Err-clause-moments
+returns-in-Err-clause-moments g c = λ said s h.
+    weaker g.R.Rig (one_within g.E.Editor.model g.met.E.Editor.says_something s (command_of c.args.command.now) said) (c.step.ensures.moments said s h)
+
+pub returns-in-Err-clause-ends : goal.returns-in-Err-clause-ends
+returns-in-Err-clause-ends g c = λ said s h. inl (c.in-Err.ensures.stops said s h)

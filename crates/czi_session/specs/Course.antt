@@ -1,0 +1,121 @@
+-- A run of commands, and what a crash leaves of it.
+use Rattle.std.specs.Prelude.{◌≡◌, ◌⊎◌, ℕ, zero, suc, ◌+◌, ◌≤◌, List, [], ◌∷◌, ◌++◌, length, take, Option, Some}
+use Rattle.std.specs.List.{concat}
+use Rattle.czi_script.specs.Script.{Command, End, Reads}
+use Rattle.czi_rig.specs.Disk.{Disk, Left}
+use Rattle.czi_rig.specs.State.{State, Instant}
+use Rattle.czi_rig.specs.declared.rig.Rig.{Ghosts}
+use Rattle.czi_rig.specs.Moments.{Devices, devices, Throughout, Always}
+
+-- What an editor is about: its states, which of them an image and a journal open to, which pairs are refused and with what
+-- text, which journals are void, what a command makes of a state, and its reply there.
+pub record Model : Type 1 where
+  pub Document : Type 0
+  pub opens : List ℕ → List ℕ → Document → Type 0
+  pub refuses : List ℕ → List ℕ → List ℕ → Type 0
+  pub void : List ℕ → Type 0
+  pub after : Document → Command → Document
+  pub reply : Document → Command → List ℕ
+
+-- the state after these commands
+abbrev pub state_after : (m : Model) → m.Document → List Command → m.Document
+state_after m s [] = s
+state_after m s (c ∷ cs) = state_after m (m.after s c) cs
+
+-- their replies
+abbrev pub replies : (m : Model) → m.Document → List Command → List (List ℕ)
+replies m s [] = []
+replies m s (c ∷ cs) = m.reply s c ∷ replies m (m.after s c) cs
+
+-- the bytes begin with these
+abbrev pub BeginsWith : List ℕ → List ℕ → Type 0
+BeginsWith start bytes = (rest : List ℕ) × (bytes ≡ start ++ rest)
+
+-- k is the greatest number such that the first k replies one after another begin what was said
+pub record Said (all : List (List ℕ)) (said : List ℕ) (k : ℕ) : Type 0 where
+  pub among : k ≤ length all
+  pub begins : BeginsWith (concat (take k all)) said
+  pub greatest : (n : ℕ) → n ≤ length all → BeginsWith (concat (take n all)) said → n ≤ k
+
+-- the text after the first k replies: the next one, or the last text
+abbrev pub text_at : List (List ℕ) → List ℕ → ℕ → List ℕ
+text_at [] last k = last
+text_at (r ∷ rs) last zero = r
+text_at (r ∷ rs) last (suc k) = text_at rs last k
+
+-- What a crash left opens to the state after the first j commands, where the first k replies had been said, and a front of
+-- the next text.
+pub record OpensToPrefix (m : Model) (start : m.Document) (cs : List Command) (last before image journal said : List ℕ) : Type 0 where
+  pub said_since : List ℕ
+  pub said_is : said ≡ before ++ said_since
+  pub k : ℕ
+  pub counts : Said (replies m start cs) said_since k
+  pub j : ℕ
+  pub near : (j ≡ k) ⊎ (j ≡ k + 1)
+  pub among : j ≤ length cs
+  pub opens : m.opens image journal (state_after m start (take j cs))
+  pub n : ℕ
+  pub every_reply : said_since ≡ concat (take k (replies m start cs)) ++ take n (text_at (replies m start cs) last k)
+
+-- something stands on both files at this state, and this was said
+pub record Stands (m : Model) (on : Disk → Disk → m.Document → Type 0) (state : State) (said : List ℕ) (s : m.Document) : Type 0 where
+  pub now : Devices
+  pub known : devices state ≡ Some now
+  pub said_is : now.said ≡ said
+  pub stands : on now.image now.journal s
+
+-- inside one command, before its reply
+abbrev pub EitherSide : (m : Model) → m.Document → Command → List ℕ → Instant
+EitherSide m s c before image journal said = (m.opens image journal s ⊎ m.opens image journal (m.after s c)) × (said ≡ before)
+
+-- inside a text that is said at one state
+abbrev pub WhileSaid : (m : Model) → m.Document → List ℕ → List ℕ → Instant
+WhileSaid m s before text image journal said = (n : ℕ) × (n ≤ length text) × (said ≡ before ++ take n text) × m.opens image journal s
+
+-- inside one command and its reply
+abbrev pub WithinStep : (m : Model) → m.Document → Command → List ℕ → Instant
+WithinStep m s c before image journal said = EitherSide m s c before image journal said ⊎ WhileSaid m (m.after s c) before (m.reply s c) image journal said
+
+-- between two texts
+abbrev pub Open : (m : Model) → m.Document → List ℕ → Instant
+Open m s before image journal said = m.opens image journal s × (said ≡ before)
+
+-- what reads give opens to this state
+pub record Opening (m : Model) (state : State) (said : List ℕ) (s : m.Document) : Type 0 where
+  pub now : Devices
+  pub known : devices state ≡ Some now
+  pub said_is : now.said ≡ said
+  pub opens : m.opens now.image.seen now.journal.seen s
+
+-- whatever a crash leaves of both files opens to this state
+abbrev pub OpensWhatever : (m : Model) → Disk → Disk → m.Document → Type 0
+OpensWhatever m image journal s = (i j : List ℕ) → Left image.durable i → Left journal.durable j → m.opens i j s
+
+-- no crash leaves anything that it couldn't have left at the start
+abbrev pub Nothing : {D : Type 0} → Ghosts D → D → D → Type 0
+Nothing rig old new = Throughout rig old new (λ image journal said. ⊥)
+
+-- Up to some moment a crash leaves nothing that it couldn't have left at the start. What it leaves from then on has P.
+pub record From {D : Type 0} (rig : Ghosts D) (old new : D) (P : Instant) : Type 0 where
+  pub then : D
+  pub before : Nothing rig old then
+  pub after : Throughout rig then new P
+  pub always : Always rig then new P
+
+-- a run begins at a state, over an input that is told
+pub record Starts (m : Model) (on : Disk → Disk → m.Document → Type 0) (left : Option (List ℕ)) (state : State) (cs : List Command) (end : End) (said : List ℕ) (s : m.Document) : Type 0 where
+  pub input : List ℕ
+  pub told : left ≡ Some input
+  pub reads : Reads 1 input cs end
+  pub stands : Stands m on state said s
+
+-- the same, before its files are opened
+pub record Begins (m : Model) (left : Option (List ℕ)) (state : State) (cs : List Command) (end : End) (said : List ℕ) (s : m.Document) : Type 0 where
+  pub input : List ℕ
+  pub told : left ≡ Some input
+  pub reads : Reads 1 input cs end
+  pub opening : Opening m state said s
+
+-- the law of an editor: whatever a crash leaves of the files that it stands on opens to its state
+abbrev pub OpensNow : (m : Model) → (Disk → Disk → m.Document → Type 0) → Type 0
+OpensNow m on = (image journal : Disk) (s : m.Document) → on image journal s → OpensWhatever m image journal s

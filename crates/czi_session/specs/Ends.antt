@@ -1,0 +1,213 @@
+-- How a run ends.
+use Rattle.std.specs.Prelude.{◌≡◌, ◌⊎◌, ◌≢◌, ℕ, ◌+◌, ◌<◌, ◌≤◌, ◌^◌, List, [], ◌∷◌, ◌++◌, length, take, drop, Option, Some, Result, Ok, Err}
+use Rattle.std.specs.Option.{ForSome}
+use Rattle.std.specs.List.{concat}
+use Rattle.czi_rig.specs.Disk.{Disk}
+use Rattle.czi_rig.specs.State.{State}
+use Rattle.czi_rig.specs.Moments.{Devices, devices}
+use Rattle.czi_rig.specs.Passes.{Rose}
+use Rattle.czi_script.specs.declared.kind.Kind.{Kind}
+use Rattle.czi_script.specs.Script.{Command, End, Done as DoneOf, Fault, SpellAll, HasNo}
+use Rattle.czi_script.specs.Reader.{limit}
+use Rattle.czi_script.specs.Course.{StopsSo}
+use Rattle.czi_script.specs.declared.error.ScriptError.TheVariants.{Fault as FaultError}
+use Rattle.czi_session.specs.declared.stop.EditorStop.{EditorStop}
+use Rattle.czi_session.specs.declared.stop.EditorStop.TheVariants.{Image as ImageOf, Journal as JournalOf, Memory as MemoryOf}
+use Rattle.czi_session.specs.declared.stop.OpenStop.{OpenStop}
+use Rattle.czi_session.specs.declared.stop.OpenStop.TheVariants.{Refused as RefusedOf, Stopped as StoppedOf}
+use Rattle.czi_session.specs.declared.stop.Stop.{Stop}
+use Rattle.czi_session.specs.declared.stop.Stop.TheVariants.{Script, Image, Journal, Output, Input, Memory, TooLong}
+use Rattle.czi_session.specs.declared.stop.Ended.{Ended}
+use Rattle.czi_session.specs.declared.stop.Ended.TheVariants.{Done, Refused, Stopped}
+use Rattle.czi_session.specs.Text.{fault_line}
+use Rattle.czi_session.specs.Course.{Model, Stands, OpensWhatever, state_after, replies}
+
+-- a pair that opens isn't refused
+abbrev pub OpensSo : OpenStop → Type 0
+OpensSo (RefusedOf text) = ⊥
+OpensSo (StoppedOf stop) = Unit {0}
+
+-- a refusal is that of the pair
+abbrev pub Refuses : Model → List ℕ → List ℕ → OpenStop → Type 0
+Refuses m image journal (RefusedOf text) = m.refuses image journal text.items
+Refuses m image journal (StoppedOf stop) = Unit {0}
+
+module _ (m : Model) (on : Disk → Disk → m.Document → Type 0) (state : State) where
+  -- Where one command and its reply stop, this was said. At a fault of the output the state after it stands.
+  abbrev pub StepStops : m.Document → Command → List ℕ → Stop → Type 0
+  StepStops s c before Output = (n : ℕ) × (n ≤ length (m.reply s c)) × Stands m on state (before ++ take n (m.reply s c)) (m.after s c)
+  StepStops s c before Image = state.said ≡ Some before
+  StepStops s c before Journal = state.said ≡ Some before
+  StepStops s c before Memory = state.said ≡ Some before
+  StepStops s c before Input = ⊥
+  StepStops s c before (Script number kind) = ⊥
+  StepStops s c before TooLong = ⊥
+
+  -- all commands were done and their replies said
+  abbrev pub AllDone : m.Document → List Command → List ℕ → Type 0
+  AllDone start cs before = Stands m on state (before ++ concat (replies m start cs)) (state_after m start cs)
+
+  -- between two commands: some were done and their replies said
+  pub record Between (start : m.Document) (cs : List Command) (before : List ℕ) : Type 0 where
+    pub done : List Command
+    pub rest : List Command
+    pub whole : cs ≡ done ++ rest
+    pub stands : AllDone start done before
+
+  -- Each command was done whose bytes were taken, and its reply said: no whole line is among the other bytes that were
+  -- taken.
+  pub record EachTaken (start : m.Document) (cs : List Command) (before all more : List ℕ) : Type 0 where
+    pub done : List Command
+    pub rest : List Command
+    pub whole : cs ≡ done ++ rest
+    pub front : List ℕ
+    pub spelled : SpellAll done front
+    pub held : List ℕ
+    pub taken : all ≡ front ++ (held ++ more)
+    pub short : length held < 4096
+    pub free : HasNo 10 held
+    pub stands : AllDone start done before
+
+  -- inside a command, where the replies before it were said
+  pub record Inside (start : m.Document) (cs : List Command) (before : List ℕ) (stop : Stop) : Type 0 where
+    pub done : List Command
+    pub command : Command
+    pub rest : List Command
+    pub whole : cs ≡ done ++ command ∷ rest
+    pub stops : StepStops (state_after m start done) command (before ++ concat (replies m start done)) stop
+
+  -- a script ended, and all of the input was taken
+  pub record Whole (left : Option (List ℕ)) (start : m.Document) (cs : List Command) (end : End) (before all : List ℕ) : Type 0 where
+    pub ends : end ≡ DoneOf
+    pub short : length all ≤ 2 ^ 40
+    pub taken : left ≡ Some []
+    pub stands : AllDone start cs before
+
+  -- the input failed
+  pub record Failing (left : Option (List ℕ)) (start : m.Document) (cs : List Command) (before all : List ℕ) : Type 0 where
+    pub more : List ℕ
+    pub left_is : left ≡ Some more
+    pub each : EachTaken start cs before all more
+
+  -- the first 2^40 bytes don't suffice, and the input goes on
+  pub record Beyond (start : m.Document) (cs : List Command) (before all : List ℕ) : Type 0 where
+    pub longer : 2 ^ 40 < length all
+    pub each : EachTaken start cs before all (drop (2 ^ 40) all)
+
+  -- a script stopped so, before the last text
+  abbrev pub StopsAt : Option (List ℕ) → m.Document → List Command → End → List ℕ → List ℕ → Stop → Type 0
+  StopsAt left start cs end before all (Script number kind) = StopsSo all cs end (FaultError number kind) × AllDone start cs before
+  StopsAt left start cs end before all Input = Failing left start cs before all
+  StopsAt left start cs end before all TooLong = Beyond start cs before all
+  StopsAt left start cs end before all Image = Inside start cs before Image
+  StopsAt left start cs end before all Journal = Inside start cs before Journal
+  StopsAt left start cs end before all Output = Inside start cs before Output
+  StopsAt left start cs end before all Memory = Inside start cs before Memory ⊎ Between start cs before
+
+  -- A script stopped so. At its end the journal may not be sealed, and at a fault its text may not be said.
+  abbrev pub RunStops : Option (List ℕ) → m.Document → List Command → End → List ℕ → List ℕ → Stop → Type 0
+  RunStops left start cs end before all (Script number kind) = StopsSo all cs end (FaultError number kind)
+      × Stands m on state (before ++ concat (replies m start cs) ++ fault_line number kind) (state_after m start cs)
+  RunStops left start cs end before all Input = Failing left start cs before all
+  RunStops left start cs end before all TooLong = Beyond start cs before all
+  RunStops left start cs end before all Image = Inside start cs before Image
+  RunStops left start cs end before all Journal = Inside start cs before Journal ⊎ ((end ≡ DoneOf) × (state.said ≡ Some (before ++ concat (replies m start cs))))
+  RunStops left start cs end before all Output = Inside start cs before Output
+      ⊎ ((number : ℕ) × (kind : Kind) × (n : ℕ) × (end ≡ Fault number kind) × (n ≤ length (fault_line number kind)) × Stands m on state (before ++ concat (replies m start cs) ++ take n (fault_line number kind)) (state_after m start cs))
+  RunStops left start cs end before all Memory = Inside start cs before Memory ⊎ Between start cs before
+
+  -- a fault's text was said, or a front of it
+  abbrev pub TextStops : m.Document → ℕ → Kind → List ℕ → Stop → Type 0
+  TextStops s number kind before (Script n k) = (n ≡ number) × (k ≡ kind) × Stands m on state (before ++ fault_line number kind) s
+  TextStops s number kind before Output = (n : ℕ) × (n ≤ length (fault_line number kind)) × Stands m on state (before ++ take n (fault_line number kind)) s
+  TextStops s number kind before Memory = Stands m on state before s
+  TextStops s number kind before Image = ⊥
+  TextStops s number kind before Journal = ⊥
+  TextStops s number kind before Input = ⊥
+  TextStops s number kind before TooLong = ⊥
+
+-- a fault's text stops only so
+abbrev pub TextCauses : Stop → ℕ → Kind → State → State → Type 0
+TextCauses (Script n k) number kind old new = (n ≡ number) × (k ≡ kind)
+TextCauses Output number kind old new = Rose old.output_faults new.output_faults
+TextCauses Memory number kind old new = Unit {0}
+TextCauses Image number kind old new = ⊥
+TextCauses Journal number kind old new = ⊥
+TextCauses Input number kind old new = ⊥
+TextCauses TooLong number kind old new = ⊥
+
+-- an opening of files that open stops so: nothing was said
+abbrev pub OpeningSays : State → List ℕ → Stop → Type 0
+OpeningSays state said Image = state.said ≡ Some said
+OpeningSays state said Journal = state.said ≡ Some said
+OpeningSays state said Memory = state.said ≡ Some said
+OpeningSays state said Output = ⊥
+OpeningSays state said Input = ⊥
+OpeningSays state said (Script number kind) = ⊥
+OpeningSays state said TooLong = ⊥
+
+abbrev pub OpeningEnds : State → List ℕ → Ended → Type 0
+OpeningEnds state said Done = ⊥
+OpeningEnds state said Refused = ⊥
+OpeningEnds state said (Stopped stop) = OpeningSays state said stop
+
+-- where all is known, the pair is one that is refused, and what was said is its text
+abbrev pub RefusedSo : Model → State → State → Type 0
+RefusedSo m old new = (all : Devices) → devices old ≡ Some all → (text : List ℕ) × m.refuses all.image.seen all.journal.seen text × (new.said ≡ Some (all.said ++ text))
+
+-- the same, with nothing taken
+abbrev pub OpeningStops : State → Option (List ℕ) → List ℕ → List ℕ → Stop → Type 0
+OpeningStops state left said all stop = OpeningSays state said stop × (left ≡ Some all)
+
+-- a run that could open ends so
+abbrev pub EndsSo : (m : Model) → State → Option (List ℕ) → m.Document → List Command → End → List ℕ → List ℕ → Ended → Type 0
+EndsSo m state left start cs end before all Done = Whole m (OpensWhatever m) state left start cs end before all
+EndsSo m state left start cs end before all Refused = ⊥
+EndsSo m state left start cs end before all (Stopped stop) = OpeningStops state left before all stop ⊎ RunStops m (OpensWhatever m) state left start cs end before all stop
+
+-- no fault came
+pub record Quiet (old new : State) (before now : ℕ) : Type 0 where
+  pub image : Rose old.image_faults new.image_faults → ⊥
+  pub journal : Rose old.journal_faults new.journal_faults → ⊥
+  pub output : Rose old.output_faults new.output_faults → ⊥
+  pub input : Rose before now → ⊥
+
+-- a run ends so, or finds no memory
+abbrev pub Answers : Ended → Ended → Type 0
+Answers wanted ended = (ended ≡ wanted) ⊎ (ended ≡ Stopped Memory)
+
+-- How many bytes of an input are taken: at most 2^40, and one more where that shows that it goes on.
+abbrev pub most_by : Stop → ℕ
+most_by (Script number kind) = 2 ^ 40
+most_by Image = 2 ^ 40
+most_by Journal = 2 ^ 40
+most_by Output = 2 ^ 40
+most_by Input = 2 ^ 40
+most_by Memory = 2 ^ 40
+most_by TooLong = 2 ^ 40 + 1
+
+abbrev pub most_taken : Result (Unit {0}) Stop → ℕ
+most_taken (Ok done) = 2 ^ 40
+most_taken (Err stop) = most_by stop
+
+abbrev pub most_of : Ended → ℕ
+most_of Done = 2 ^ 40
+most_of Refused = 0
+most_of (Stopped stop) = most_by stop
+
+-- the first of the bytes that were left were taken, at most so many
+pub record Takes (before after : Option (List ℕ)) (most : ℕ) : Type 0 where
+  pub count : ℕ
+  pub few : count ≤ most
+  pub inside : ForSome before (λ bytes. count ≤ length bytes)
+  pub rest : ForSome before (λ bytes. after ≡ Some (drop count bytes))
+
+-- One command alone stops so: inside it, or at the sealing.
+abbrev pub OneStops : (m : Model) → State → m.Document → Command → List ℕ → Stop → Type 0
+OneStops m state s c before stop = StepStops m (OpensWhatever m) state s c before stop ⊎ ((stop ≡ Journal) × (state.said ≡ Some (before ++ m.reply s c)))
+
+-- a run of one command that could open ends so
+abbrev pub OneEnds : (m : Model) → State → m.Document → Command → List ℕ → Ended → Type 0
+OneEnds m state s c before Done = Stands m (OpensWhatever m) state (before ++ m.reply s c) (m.after s c)
+OneEnds m state s c before Refused = ⊥
+OneEnds m state s c before (Stopped stop) = OpeningSays state before stop ⊎ OneStops m state s c before stop

@@ -1,0 +1,5 @@
+pub mod Causes
+pub mod Course
+pub mod Ends
+pub mod Text
+pub mod Trials
