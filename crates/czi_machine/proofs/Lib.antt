@@ -49,3 +49,4 @@ pub mod FromPlan
 pub mod Follow
 pub mod StepLaws
 pub mod OneOfThem
+pub mod SameRuns
