@@ -50,3 +50,4 @@ pub mod Follow
 pub mod StepLaws
 pub mod OneOfThem
 pub mod SameRuns
+pub mod UsableHold

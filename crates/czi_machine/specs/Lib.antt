@@ -18,6 +18,7 @@ pub mod Turn
 pub mod Writes
 pub mod Puts
 pub mod Removal
+pub mod Runs
 pub mod Formers
 pub mod Laws
 pub mod Planned
