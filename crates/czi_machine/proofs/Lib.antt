@@ -51,3 +51,4 @@ pub mod StepLaws
 pub mod OneOfThem
 pub mod SameRuns
 pub mod UsableHold
+pub mod RemovalLeaves

@@ -70,7 +70,7 @@ keeping_directory None true need spans good s = record { good = tt; fewer = λ p
 keeping_directory (Some q) true need spans good s = record { good = (s.good.0, tt); fewer = λ p. omega arith; there = (s.there.0, tt) }
 keeping_directory old false need spans good s = record { good = (good, tt); fewer = λ p. omega arith; there = tt }
 
-segment_need_good : (n : ℕ) → (segment_need n % 32 ≡ 0) × (0 < segment_need n)
+pub segment_need_good : (n : ℕ) → (segment_need n % 32 ≡ 0) × (0 < segment_need n)
 segment_need_good n = (omega arith, omega arith)
 
 no_back : {X : Type 0} (need : X → ℕ) (c : List (Act X)) (places : List Place) → going_back (changed (mapped (λ x. fresh (need x)) c) (map stays places)) ≡ []
