@@ -1,5 +1,5 @@
 -- From what was read to the index: the rule on overlaps, what the walk knows, and where everything lies.
-use Rattle.std.proofs.Common.{◌≡◌, ℕ, zero, suc, ◌+◌, ◌<◌, ◌≤◌, List, [], ◌∷◌, ◌++◌, map, length, take, Bool, true, false, ◌||◌, ◌==◌, Option, Some, None, option_map, Result, Ok, Err, refl, ap, sym, ◌∙◌, subst, arith}
+use Rattle.std.proofs.Common.{◌≡◌, ℕ, ◌<◌, ◌≤◌, List, [], ◌∷◌, map, length, take, true, ◌==◌, Some, None, Ok, Err, refl, ap, sym, ◌∙◌, subst, arith}
 use Rattle.std.specs.Prelude.{bytes_eq}
 use Rattle.std.specs.List.{AllByRecursion, list_any}
 use Rattle.std.proofs.lemmas.Bool.{eq-eqb}
@@ -21,7 +21,7 @@ use Rattle.czi_num.specs.Span.{span_of}
 use Rattle.czi_seg.specs.declared.header.SegHeader.{SegHeader}
 use Rattle.czi_spans.specs.Apart.{first_of}
 use Rattle.czi_spans.proofs.Sorting.{all_moved, any_sorted}
-use Rattle.czi_walk.specs.View.{segment_of, HasExtent, IsRow, EndBy, Knows}
+use Rattle.czi_walk.specs.View.{segment_of, IsRow, EndBy, Knows}
 use Rattle.czi_walk.specs.Marks.{AreLive}
 use Rattle.czi_walk.specs.declared.surveying.Survey.{Survey}
 use Rattle.czi_walk.specs.Survey as walked
@@ -33,7 +33,7 @@ use Rattle.czi_image.specs.declared.index.Index.{Index}
 use Rattle.czi_image.specs.declared.fault.ImageFault.{ImageFault}
 use Rattle.czi_image.specs.Faults.{Tells, Refuses}
 use Rattle.czi_image.proofs.Told.{tells_first}
-use Rattle.czi_image.specs.Holds.{Holds, LiesAs, Indexes}
+use Rattle.czi_image.specs.Holds.{Holds, LiesAs, IsSettled, Indexes}
 use Rattle.czi_image.specs.Inside.{LiveWithin}
 use Rattle.czi_image.specs.Items.{items_of, AreSorted}
 use Rattle.czi_image.specs.Spans.{AreFree}
@@ -154,8 +154,8 @@ pub indexes : (image : List ℕ) (l : CodeLive) (items : List (CodeSpan × SegHe
     → AreSorted (items_of l) items → map span_of spans ≡ map first_of items → first_meeting (map first_of items) ≡ None
     → IsWalk (take n image) (map segment_of survey.walk.items) → ((segments : List Segment) → AreLive spans segments → Shows segments survey) → Holds (live_of l) x
     → (Shows (segments (live_of l)) survey → is_walked (map segment_of survey.walk.items) (live_of l).header.segment ≡ true → LiesAs (layout n (live_of l) (map segment_of survey.walk.items)) x)
-    → Indexes image x
-indexes image l items spans survey n x long found s same none walks shows holds lies =
+    → IsSettled image → Indexes image x
+indexes image l items spans survey n x long found s same none walks shows holds lies settled =
     let read : reading image ≡ Ok (live_of l) = read_whole image (live_of l) found (ap first_meeting (sym (extents_sorted l items s)) ∙ none) in
     let reaches = reading_reaches image (live_of l) read in
     let whole : take n image ≡ image = take_all n image (omega (arith, long)) in
@@ -165,6 +165,7 @@ indexes image l items spans survey n x long found s same none walks shows holds 
       walk = map segment_of survey.walk.items;
       reaches = reaches.0;
       idle = reaches.1;
+      settled = settled;
       walks = walk;
       holds = holds;
       lies = subst (λ (m : ℕ). LiesAs (layout m (live_of l) (map segment_of survey.walk.items)) x) long

@@ -9,3 +9,6 @@ pub mod LiveItems
 pub mod Marks
 pub mod Indexed
 pub mod Placed
+pub mod Settled
+pub mod Without
+pub mod AtEnd

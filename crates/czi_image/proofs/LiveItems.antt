@@ -1,21 +1,16 @@
 -- The live segments as items.
-use Rattle.std.proofs.Common.{◌≡◌, ℕ, ◌+◌, ◌^◌, ◌≤◌, List, [], ◌∷◌, ◌++◌, map, Option, Some, None, option_map, refl, ap, sym, ◌∙◌, arith}
+use Rattle.std.proofs.Common.{◌≡◌, ℕ, ◌+◌, ◌≤◌, List, [], ◌∷◌, ◌++◌, map, Option, Some, None, option_map, refl, ap, ◌∙◌, arith}
 use Rattle.std.proofs.lemmas.List.{map-append}
 use Rattle.std.specs.Prelude.{option_to_list, IfSome}
 use Rattle.std.specs.List.{AllByRecursion}
-use Rattle.czi_format.specs.Span.{Span, end_of}
-use Rattle.czi_format.specs.Segment.{Segment, extent}
+use Rattle.czi_format.specs.Span.{end_of}
+use Rattle.czi_format.specs.Segment.{Segment}
 use Rattle.czi_format.specs.Live.{Directory, Tile, AttItem, MetaItem, segments}
 use Rattle.czi_num.specs.declared.span.Span.{Span as CodeSpan}
 use Rattle.czi_num.specs.Span.{span_of}
 use Rattle.czi_seg.specs.declared.header.SegHeader.{SegHeader}
 use Rattle.czi_seg.specs.View.{header_of}
 use Rattle.czi_walk.specs.View.{segment_of, HasExtent, EndBy}
-use Rattle.czi_image.specs.declared.found.Header.{Header}
-use Rattle.czi_image.specs.declared.directory.Directory.{Directory as CodeDirectory}
-use Rattle.czi_image.specs.declared.types.Tile.{Tile as CodeTile}
-use Rattle.czi_image.specs.declared.types.AttItem.{AttItem as CodeAttItem}
-use Rattle.czi_image.specs.declared.types.MetaItem.{MetaItem as CodeMetaItem}
 use Rattle.czi_image.specs.declared.reading.Live.{Live as CodeLive}
 use Rattle.czi_image.specs.Inside.{LiveWithin, DirectoryEnds, TileEnds, AttItemEnds, MetaItemEnds}
 use Rattle.czi_image.specs.Items.{header_item, directory_item, tile_item, att_item_item, meta_item_item, items_of}

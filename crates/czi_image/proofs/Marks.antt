@@ -1,7 +1,6 @@
 -- Marks set in a list, one after another.
 use Rattle.std.proofs.Common.{◌≡◌, ℕ, zero, suc, ◌+◌, ◌<◌, List, [], ◌∷◌, ◌++◌, map, take, drop, length, get_or, slice_set, Bool, ap, sym, ◌∙◌, arith}
-use Rattle.czi_format.specs.Span.{Span}
-use Rattle.czi_format.specs.Segment.{Segment, extent}
+use Rattle.czi_format.specs.Segment.{Segment}
 use Rattle.czi_format.specs.Layout.{Place, place_of, is_walked}
 use Rattle.czi_num.specs.declared.span.Span.{Span as CodeSpan}
 use Rattle.czi_num.specs.Span.{span_of}

@@ -1,5 +1,5 @@
 -- What an index says of an image: what the pointers of the file header reach, and where everything lies.
-use Rattle.std.specs.Prelude.{◌≡◌, ℕ, ◌+◌, pos, List, map, length, Option, option_map, true}
+use Rattle.std.specs.Prelude.{◌≡◌, ℕ, ◌+◌, ◌<◌, ◌≤◌, pos, List, map, length, slice_index, Option, option_map, true}
 use Rattle.czi_format.specs.Span.{Span}
 use Rattle.czi_format.specs.Segment.{Segment, extent}
 use Rattle.czi_format.specs.Live.{FileHeader, Directory, Live, update_pending}
@@ -71,12 +71,17 @@ pub record LiesAs (l : Layout) (x : Index) : Type 0 where
   pub deleted : map span_of x.extents.items ≡ l.deleted
   pub unknown : x.unknown ≡ Rattle.std.specs.Prelude.length l.unknown
 
+-- the four bytes of UpdatePending are 0
+abbrev pub IsSettled : List ℕ → Type 0
+IsSettled image = (k : ℕ) → 100 ≤ k → k < 104 → slice_index image k ≡ 0
+
 -- The image shows a document and no update is pending; the index holds what its pointers reach, and its layout.
 pub record Indexes (image : List ℕ) (x : Index) : Type 0 where
   pub live : Live
   pub walk : List Segment
   pub reaches : Reaches image live
   pub idle : update_pending image ≡ pos 0
+  pub settled : IsSettled image
   pub walks : IsWalk image walk
   pub holds : Holds live x
   pub lies : LiesAs (layout (Rattle.std.specs.Prelude.length image) live walk) x

@@ -10,3 +10,4 @@ pub mod Props
 pub mod Marked
 pub mod Holds
 pub mod WalkFaults
+pub mod Removed

@@ -1,6 +1,6 @@
 //! Segments that were found in an image.
 
-ghost use Rattle.std.specs.Prelude.{◌≡◌, ◌+◌, pos};
+ghost use Rattle.std.specs.Prelude.{◌≡◌, ◌+◌, ◌≤◌, pos};
 
 use czi_num::Span;
 use czi_seg::{FileHeader, SegHeader};
@@ -14,6 +14,7 @@ pub(crate) struct Header {
     ghost place: { span.at ≡ 0 },
     ghost extent: { span.len ≡ 32 + head.allocated },
     ghost allocated: { file.allocated ≡ head.allocated },
+    ghost headed: { 80 ≤ file.allocated },
     ghost idle: { file.pending ≡ pos 0 },
 }
 

@@ -1,11 +1,12 @@
 //! The file header.
 
-ghost use Rattle.std.specs.Prelude.{◌≡◌, ◌^◌, ◌≤◌, length, IfOk, IfErr};
+ghost use Rattle.std.specs.Prelude.{◌≡◌, ◌^◌, ◌≤◌, length, IfOk, IfErr, OnOk};
 ghost use Rattle.std.specs.Option.{ForSome};
 ghost use Rattle.czi_rig.specs.State.{seen_of};
 ghost use Rattle.czi_rig.specs.Quiet.{Untouched};
 ghost use Rattle.czi_format.specs.Refusals.{first_rules};
 ghost use Rattle.czi_image.specs.Faults.{HasRisen, IsNoDevice, Tells};
+ghost use Rattle.czi_image.specs.Holds.{IsSettled};
 ghost use Rattle.czi_image.specs.Rules.{first_rules_in, fault_of};
 ghost use Rattle.czi_image.specs.View.{file_header_of};
 
@@ -32,6 +33,7 @@ fn header_in(front: &[u8; 112], size: u64) -> Result<Header, ImageFault>
     requires { (112 ≤ size) × (size ≤ 2 ^ 62) }
     ensures found { IfOk result (λ h. first_rules_in front.now size ≡ Ok (file_header_of h)) }
     ensures inside { IfOk result (λ h. h.span.len ≤ size) }
+    ensures settled { OnOk result (IsSettled front.now) }
     ensures refused { IfErr result (Tells (first_rules_in front.now size)) }
     ensures own { IfErr result IsNoDevice }
 {
@@ -62,6 +64,7 @@ pub(crate) fn read_header_at_front<R: Rig>(rig: &mut R, size: u64) -> Result<Hea
     requires small { size ≤ 2 ^ 62 }
     ensures found { IfOk result (λ h. ForSome (seen_of (R.state rig.old) File.Image) (λ image. first_rules image ≡ Ok (file_header_of h))) }
     ensures inside { IfOk result (λ h. h.span.len ≤ size) }
+    ensures settled { OnOk result (ForSome (seen_of (R.state rig.old) File.Image) IsSettled) }
     ensures refused { IfErr result (λ fault. ForSome (seen_of (R.state rig.old) File.Image) (λ image. Tells (first_rules image) fault)) }
     ensures untouched { Untouched R.Rig rig.old rig.new }
     ensures cause { IfErr result (HasRisen (R.state rig.old) (R.state rig.new)) }

@@ -34,6 +34,7 @@ pub struct Index {
     pub unknown: u64,
     /// Where the walk ends.
     pub walk_end: u64,
+    pub ghost headed: { 80 ≤ header.allocated },
     pub ghost small: { length ≤ 2 ^ 62 },
     pub ghost walked_within: { walk_end ≤ length },
     pub ghost inside: { AllByRecursion (λ s. end_of s ≤ length) (live_spans header directory tiles.items attdir attachments.items metadata) } by { inside_prop length (live_spans header directory tiles.items attdir attachments.items metadata) },

@@ -9,10 +9,14 @@ mod found;
 mod header;
 mod index;
 mod items;
+mod laws;
 mod marking;
 mod metadata;
 mod opening;
 mod reading;
+#[cfg(test)]
+mod refusals;
+mod removing;
 mod segment;
 #[cfg(test)]
 mod tests;
@@ -21,5 +25,6 @@ mod types;
 
 pub use fault::ImageFault;
 pub use index::Index;
+pub use laws::tile_removed;
 pub use opening::read_index;
 pub use types::{AttItem, DirItem, MetaItem, Tile};

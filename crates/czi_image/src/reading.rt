@@ -1,12 +1,13 @@
 //! All that the pointers of the file header reach.
 
-ghost use Rattle.std.specs.Prelude.{◌≡◌, ◌^◌, ◌≤◌, length, IfOk, IfErr};
+ghost use Rattle.std.specs.Prelude.{◌≡◌, ◌^◌, ◌≤◌, length, IfOk, IfErr, OnOk};
 ghost use Rattle.std.specs.Option.{ForSome};
 ghost use Rattle.czi_rig.specs.declared.file.File.TheVariants.{Image};
 ghost use Rattle.czi_rig.specs.State.{seen_of};
 ghost use Rattle.czi_rig.specs.Quiet.{Untouched};
 ghost use Rattle.czi_format.specs.Refusals.{reads_but_overlap};
 ghost use Rattle.czi_image.specs.Faults.{HasRisen, Tells};
+ghost use Rattle.czi_image.specs.Holds.{IsSettled};
 ghost use Rattle.czi_image.specs.Inside.{LiveWithin};
 ghost use Rattle.czi_image.specs.View.{live_of};
 
@@ -39,6 +40,7 @@ pub(crate) fn read_live<R: Rig>(alloc: Global, rig: &mut R, size: u64) -> Result
     requires small { size ≤ 2 ^ 62 }
     ensures found { IfOk result (λ live. ForSome (seen_of (R.state rig.old) Image) (λ image. reads_but_overlap image ≡ Ok (live_of live))) }
     ensures inside { IfOk result (LiveWithin size) }
+    ensures settled { OnOk result (ForSome (seen_of (R.state rig.old) Image) IsSettled) }
     ensures refused { IfErr result (λ fault. ForSome (seen_of (R.state rig.old) Image) (λ image. Tells (reads_but_overlap image) fault)) }
     ensures untouched { Untouched R.Rig rig.old rig.new }
     ensures cause { IfErr result (HasRisen (R.state rig.old) (R.state rig.new)) }

@@ -1,11 +1,13 @@
-use crate::{ImageFault, Index, read_index};
+ghost use Rattle.std.specs.Prelude.{◌≡◌, ◌≤◌, ◌^◌};
+
+use crate::{DirItem, ImageFault, Index, read_index};
 use czi_num::{Span, write_bytes};
 use czi_rig::{File, MemRig};
 use std::alloc::{AllocError, Global};
 use std::test::Fail;
 
 // Bytes at a place.
-type Part = (usize, &'static [u8]);
+pub(crate) type Part = (usize, &'static [u8]);
 
 // A document of one subblock, one attachment and metadata. The directory stands at 544 and its entry at 704,
 // the subblock at 768, the attachment directory at 1088 and its entry at 1376, the attachment at 1504, and the
@@ -47,7 +49,7 @@ const DOCUMENT: [Part; 31] = [
 // UsedSize of the metadata, and how long the XML is.
 const XML: [Part; 2] = [(1824, &[5, 1]), (1832, &[5])];
 
-fn put(image: &mut Vec<u8>, parts: &[Part]) {
+pub(crate) fn put(image: &mut Vec<u8>, parts: &[Part]) {
     for (at, bytes) in parts {
         let fits = bytes.len() <= image.len() && *at <= image.len() - bytes.len();
         if fits {
@@ -57,18 +59,12 @@ fn put(image: &mut Vec<u8>, parts: &[Part]) {
 }
 
 // The document with some of its bytes written over, in a file of so many bytes.
-fn document(alloc: Global, len: usize, changes: &[Part]) -> Result<Vec<u8>, AllocError> {
+pub(crate) fn document(alloc: Global, len: usize, changes: &[Part]) -> Result<Vec<u8>, AllocError> {
     let mut image = vec![in alloc; 0u8; len]?;
     put(&mut image, &DOCUMENT);
     put(&mut image, &XML);
     put(&mut image, changes);
     Ok(image)
-}
-
-fn refusal(alloc: Global, len: usize, changes: &[Part]) -> Result<Option<ImageFault>, AllocError> {
-    let image = document(alloc, len, changes)?;
-    let mut rig = MemRig::new(alloc, &image, b"")?;
-    Ok(read_index(alloc, &mut rig).err())
 }
 
 // A document without items, whose directory stands at 544.
@@ -155,116 +151,6 @@ fn a_document_is_read_by_one_read_each(rt: HostRuntime) -> Result<(), Fail> {
     Ok(())
 }
 
-// Each row has its fault, and most of them a later fault as well.
-#[test]
-fn the_first_rule_that_fails_refuses(rt: HostRuntime) -> Result<(), Fail> {
-    let alloc = rt.alloc();
-    let cases: [(&[Part], ImageFault); 22] = [
-        (&[(0, b"X")], ImageFault::NotCzi),
-        (&[(16, &[79, 0]), (80, &[1])], ImageFault::NotCzi),
-        (&[(24, &[79, 0]), (80, &[1])], ImageFault::NotCzi),
-        (&[(24, &[1, 2]), (80, &[1])], ImageFault::NotCzi),
-        (&[(16, &[0x0E, 8]), (80, &[1])], ImageFault::NotCzi),
-        (&[(80, &[1]), (100, &[1])], ImageFault::MultiPart(1)),
-        (&[(100, &[1]), (544, b"X")], ImageFault::Pending(1)),
-        (&[(544, b"X"), (704, b"X")], ImageFault::BadDirectory(544)),
-        (
-            &[(560, &[127]), (568, &[127])],
-            ImageFault::BadDirectory(544),
-        ),
-        (&[(568, &[181]), (704, b"X")], ImageFault::BadDirectory(544)),
-        (
-            &[(579, &[0x80]), (704, b"X")],
-            ImageFault::BadDirectory(544),
-        ),
-        (&[(84, &[0xFF; 8])], ImageFault::BadDirectory(-1)),
-        (&[(576, &[1, 0, 0x10])], ImageFault::TooMany(544, 1_048_577)),
-        (&[(576, &[2]), (768, b"X")], ImageFault::BadEntry(756)),
-        (&[(718, &[1]), (768, b"X")], ImageFault::BadEntry(704)),
-        (&[(732, &[0]), (768, b"X")], ImageFault::BadEntry(704)),
-        (&[(732, &[41]), (768, b"X")], ImageFault::BadEntry(704)),
-        (&[(768, b"X"), (1088, b"X")], ImageFault::BadSegment(768)),
-        (&[(710, &[0; 8])], ImageFault::BadSegment(0)),
-        (&[(808, &[33])], ImageFault::BadSegment(768)),
-        (&[(792, &[0x21, 1])], ImageFault::BadSegment(768)),
-        (&[(844, &[25])], ImageFault::BadSegment(768)),
-    ];
-    for (changes, fault) in cases.iter() {
-        assert_eq!(rt; refusal(alloc, 2093, changes)?, Some(*fault));
-    }
-    assert_eq!(rt; refusal(alloc, 2093, &[(808, &[32])])?, None);
-    let mut rig = MemRig::new(alloc, b"ZISRAWFILE", b"")?;
-    assert_eq!(rt; read_index(alloc, &mut rig).err(), Some(ImageFault::NotCzi));
-    Ok(())
-}
-
-#[test]
-fn the_first_rule_of_attachments_and_metadata_refuses(rt: HostRuntime) -> Result<(), Fail> {
-    let alloc = rt.alloc();
-    let cases: [(&[Part], ImageFault); 10] = [
-        (
-            &[(1088, b"X"), (1800, b"X")],
-            ImageFault::BadAttachment(1088),
-        ),
-        (&[(1120, &[2])], ImageFault::BadAttachment(1088)),
-        (&[(1123, &[0x80])], ImageFault::BadAttachment(1088)),
-        (
-            &[(1376, b"B"), (1504, b"X")],
-            ImageFault::BadAttachment(1376),
-        ),
-        (
-            &[(1504, b"X"), (1800, b"X")],
-            ImageFault::BadAttachment(1504),
-        ),
-        (&[(1536, &[5])], ImageFault::BadAttachment(1504)),
-        (&[(1539, &[0x80])], ImageFault::BadAttachment(1504)),
-        (&[(1800, b"X")], ImageFault::BadSegment(1800)),
-        (&[(1832, &[6])], ImageFault::BadSegment(1800)),
-        (&[(1520, &[32]), (1832, &[6])], ImageFault::BadSegment(1800)),
-    ];
-    for (changes, fault) in cases.iter() {
-        assert_eq!(rt; refusal(alloc, 2093, changes)?, Some(*fault));
-    }
-    Ok(())
-}
-
-#[test]
-fn the_first_two_live_segments_that_meet_refuse(rt: HostRuntime) -> Result<(), Fail> {
-    let alloc = rt.alloc();
-    let cases: [(&[Part], [u64; 4]); 3] = [
-        (&[(1520, &[32])], [1504, 320, 1800, 293]),
-        (&[(784, &[0x21]), (1520, &[32])], [768, 321, 1088, 416]),
-        (&[(16, &[1, 2]), (1520, &[32])], [0, 545, 544, 212]),
-    ];
-    for (changes, numbers) in cases.iter() {
-        let [first, first_len, second, second_len] = *numbers;
-        match refusal(alloc, 2093, changes)? {
-            Some(ImageFault::Overlap(one, two)) => {
-                assert_eq!(rt; [one.at, one.len], [first, first_len]);
-                assert_eq!(rt; [two.at, two.len], [second, second_len]);
-            }
-            other => assert_eq!(rt; other, None),
-        }
-    }
-    Ok(())
-}
-
-#[test]
-fn too_many_attachments_are_refused_before_their_entries(rt: HostRuntime) -> Result<(), Fail> {
-    let alloc = rt.alloc();
-    let many: [Part; 2] = [(1104, &[0x80, 1, 8]), (1120, &[1, 0x10])];
-    assert_eq!(rt;
-        refusal(alloc, 600_000, &many)?,
-        Some(ImageFault::TooMany(1088, 4097))
-    );
-    let most: [Part; 2] = [(1104, &[0x80, 1, 8]), (1120, &[0, 0x10])];
-    assert_eq!(rt;
-        refusal(alloc, 600_000, &most)?,
-        Some(ImageFault::BadAttachment(1504))
-    );
-    Ok(())
-}
-
 #[test]
 fn a_failed_call_is_answered(rt: HostRuntime) -> Result<(), Fail> {
     let alloc = rt.alloc();
@@ -273,6 +159,93 @@ fn a_failed_call_is_answered(rt: HostRuntime) -> Result<(), Fail> {
         let mut rig = MemRig::new(alloc, &image, b"")?;
         rig.fail_call(number)?;
         assert_eq!(rt; read_index(alloc, &mut rig).err(), Some(ImageFault::Device));
+    }
+    Ok(())
+}
+
+// Two subblocks, at 832 and at 1152, and 64 free bytes behind them. The directory stands at 544, its entries at 704
+// and at 756.
+const TWO: [Part; 24] = [
+    (0, b"ZISRAWFILE"),
+    (16, &[0, 2]),
+    (24, &[0, 2]),
+    (84, &[0x20, 2]),
+    (544, b"ZISRAWDIRECTORY"),
+    (560, &[0, 1]),
+    (568, &[232]),
+    (576, &[2]),
+    (704, b"DV"),
+    (710, &[0x40, 3]),
+    (732, &[1]),
+    (736, b"X"),
+    (756, b"DV"),
+    (762, &[0x80, 4]),
+    (784, &[1]),
+    (788, b"X"),
+    (832, b"ZISRAWSUBBLOCK"),
+    (848, &[0x20, 1]),
+    (856, &[8, 1]),
+    (872, &[8]),
+    (908, &[1]),
+    (1152, b"ZISRAWSUBBLOCK"),
+    (1168, &[0x20, 1]),
+    (1176, &[8, 1]),
+];
+
+const BEHIND: [Part; 4] = [
+    (1192, &[5]),
+    (1228, &[1]),
+    (1472, b"DELETED"),
+    (1488, &[32]),
+];
+
+// A directory of 192 bytes.
+fn directory_at(at: u64) -> DirItem
+    requires { at ≤ 2 ^ 20 }
+    ensures at { result.span.at ≡ at }
+    ensures len { result.span.len ≡ 192 }
+{
+    let span = Span { at, len: 192 };
+    DirItem { span, walked: true }
+}
+
+// The index without the subblock at a place: its directory stands behind the image, and nothing is free.
+fn removed_at_end(alloc: Global, mut index: Index, i: usize) -> Option<Index> {
+    if i >= index.tiles.len() || index.length > 4096 {
+        return None;
+    }
+    let directory = directory_at(index.length);
+    let length = index.length + 192;
+    index.remove_tile(i, directory, Vec::new(alloc), length, length);
+    Some(index)
+}
+
+#[test]
+fn a_subblock_is_taken_out(rt: HostRuntime) -> Result<(), Fail> {
+    let alloc = rt.alloc();
+    let mut image = vec![in alloc; 0u8; 1536]?;
+    put(&mut image, &TWO);
+    put(&mut image, &BEHIND);
+    for (i, other) in [(0, 1152), (1, 832)] {
+        let mut rig = MemRig::new(alloc, &image, b"")?;
+        let index = read_index(alloc, &mut rig).ok().ok_or("refused")?;
+        assert_eq!(rt; [index.length, index.walk_end], [1536, 1536]);
+        assert_eq!(rt;
+            index.extents.as_slice(),
+            [Span { at: 1472, len: 64 }].as_slice()
+        );
+        let index = removed_at_end(alloc, index, i).ok_or("no such subblock")?;
+        assert_eq!(rt; index.tiles.len(), 1);
+        let tile = &index.tiles[0];
+        assert_eq!(rt; [tile.span.at, tile.span.len], [other, 320]);
+        assert_eq!(rt; index.header.directory, 1536);
+        let directory = index.directory.ok_or("no directory")?;
+        assert!(rt; directory.span.at == 1536 && directory.span.len == 192 && directory.walked);
+        assert_eq!(rt;
+            [index.length, index.walk_end, index.unknown],
+            [1728, 1728, 0]
+        );
+        assert!(rt; index.extents.is_empty());
     }
     Ok(())
 }

@@ -74,5 +74,6 @@ pub struct DirItem {
     pub span: Span,
     /// Whether the walk stands on its segment.
     pub walked: bool,
+    pub ghost long: { 32 ≤ span.len },
     pub ghost ends: { span.at + span.len ≤ 2 ^ 62 },
 }

@@ -1,4 +1,4 @@
-use Rattle.std.proofs.Common.{◌≡◌, arith, refl, sym, ap, ◌∙◌}
+use Rattle.std.proofs.Common.{arith, refl, ap, ◌∙◌}
 use Rattle.czi_format.specs.Live.{AttItem}
 use Rattle.czi_format.specs.Layout.{Place, place_of}
 use Rattle.czi_seg.specs.View.{header_of}

@@ -1,15 +1,12 @@
-use Rattle.std.proofs.Common.{◌≡◌, ◌∙◌, List, Option, Some, None, map, option_map, refl, ap, sym, subst}
+use Rattle.std.proofs.Common.{◌≡◌, ◌∙◌, List, Some, None, map, ap, sym, subst}
 use Rattle.std.proofs.lemmas.Result.{err_from_is_err_and}
 use Rattle.czi_rig.specs.declared.file.File.TheVariants.{Image}
-use Rattle.czi_format.specs.Segment.{extent}
-use Rattle.czi_format.specs.Live.{segments}
 use Rattle.czi_format.specs.Refusals.{first_meeting}
 use Rattle.czi_num.specs.declared.span.Span.{Span}
 use Rattle.czi_num.specs.Span.{span_of}
 use Rattle.czi_seg.specs.declared.header.SegHeader.{SegHeader}
 use Rattle.czi_spans.specs.Apart.{first_of, overlap_of}
 use Rattle.czi_walk.specs.View.{IsRow, EndBy, Knows}
-use Rattle.czi_walk.specs.Marks.{AreLive}
 use Rattle.czi_image.specs.Items.{AreSorted, items_of}
 use Rattle.czi_image.specs.View.{live_of}
 use Rattle.czi_image.proofs.Indexed.{read_overlap, extents_sorted, are_live, is_row, end_by, knows, disjoint_live, free_live, indexes, refuses_first}
@@ -88,4 +85,4 @@ returns-clause-shown g c = λ image is.
     let after = seen_same _ _ Image image c.image_length.ensures.untouched.same is in
     let spans_are : map span_of c.deref-4.result.now ≡ map first_of items = ap (λ (l : List Span). map span_of l) c.deref-4.ensures.value ∙ same in
     indexes image live items c.deref-4.result.now c.in_ok-survey.survey c.in_ok-length.length c.index_of.result ((c.in_ok-length.ensures {u = tt}).length image is) ((c.in_ok-live.ensures {u = tt}).found image after) ordered spans_are none
-    ((c.in_ok-survey.ensures {u = tt}).walk image (seen_same _ _ Image image c.read_live.ensures.untouched.same after)) (c.in_ok-survey.ensures {u = tt}).shows c.index_of.ensures.holds c.index_of.ensures.lies
+    ((c.in_ok-survey.ensures {u = tt}).walk image (seen_same _ _ Image image c.read_live.ensures.untouched.same after)) (c.in_ok-survey.ensures {u = tt}).shows c.index_of.ensures.holds c.index_of.ensures.lies ((c.in_ok-live.ensures {u = tt}).settled image after)
