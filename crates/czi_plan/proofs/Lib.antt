@@ -10,6 +10,8 @@ pub mod Order
 pub mod Parts
 pub mod Removed
 pub mod Placed
+pub mod Brief
 pub mod Planned
 pub mod Whole
 pub mod Read
+pub mod After

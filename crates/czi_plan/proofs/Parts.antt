@@ -82,6 +82,12 @@ fit_place s need f e =
     on_ok (place_for s need) _ f e λ at there more.
     subst (λ (z : Fit). (place_for s need ≡ Ok z.span.at) × (z.span.len ≡ need)) (same_fit (record { span = record { at = at; len = need }; space = use_span s (record { at = at; len = need }) }) f _ refl more) (there, refl)
 
+-- the length after a need was given a place
+pub fit_length : (s : Space) (need : ℕ) (f : Fit) → fit s need ≡ Ok f → s.length ≤ f.space.length
+fit_length s need f e =
+    on_ok (place_for s need) _ f e λ at there more.
+    subst (λ (z : Fit). s.length ≤ z.space.length) (same_fit (record { span = record { at = at; len = need }; space = use_span s (record { at = at; len = need }) }) f _ refl more) (omega arith)
+
 -- A span that a need was given.
 pub record IsUsed (n : ℕ) (held es : List Span) (s : Span) : Type 0 where
   pub whole : IsWhole s
@@ -123,7 +129,7 @@ used_place n need held es s rise whole e long even some = elim (placed _ need s.
       }
 ]
 
-lies_covers : (s : Span) (es : List Span) (p : ℕ) → LiesInOne s es → s.at ≤ p → p < end_of s → 1 ≤ cover es p
+pub lies_covers : (s : Span) (es : List Span) (p : ℕ) → LiesInOne s es → s.at ≤ p → p < end_of s → 1 ≤ cover es p
 lies_covers s [] p lies h k = absurd lies
 lies_covers s (e ∷ es) p (inl i) h k = omega (arith, between_in e.at (end_of e) p (omega (arith, i.0, h)) (omega (arith, i.1, k)))
 lies_covers s (e ∷ es) p (inr i) h k = omega (arith, lies_covers s es p i h k)
@@ -146,11 +152,11 @@ used_free n held es s q rise used h k = elim used.lies [
   ]
 ]
 
-ends_none : (n p : ℕ) (xs : List Span) → AllByRecursion (λ (s : Span). end_of s ≤ n) xs → n ≤ p → cover xs p ≡ 0
+pub ends_none : (n p : ℕ) (xs : List Span) → AllByRecursion (λ (s : Span). end_of s ≤ n) xs → n ≤ p → cover xs p ≡ 0
 ends_none n p [] all h = refl
 ends_none n p (x ∷ xs) all h = omega (arith, between_high x.at (end_of x) p (omega (arith, all.0, h)), ends_none n p xs all.1 h)
 
-extents_ends : (from n : ℕ) (es : List Span) → AreExtents from n es → AllByRecursion (λ (s : Span). end_of s ≤ n) es
+pub extents_ends : (from n : ℕ) (es : List Span) → AreExtents from n es → AllByRecursion (λ (s : Span). end_of s ≤ n) es
 extents_ends from n [] e = tt
 extents_ends from n (s ∷ rest) e = (low (end_of s) rest e.2, extents_ends (end_of s) n rest e.2)
   where

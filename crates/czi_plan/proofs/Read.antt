@@ -1,30 +1,26 @@
 -- What is read where the plan of a removal was written.
-use Rattle.std.proofs.Common.{◌≡◌, ℕ, zero, suc, ◌+◌, ◌-◌, ◌≤◌, ◌^◌, List, [], ◌∷◌, ◌++◌, map, length, Option, Some, None, Ok, refl, ap, sym, ◌∙◌, subst, arith}
+use Rattle.std.proofs.Common.{◌≡◌, ℕ, zero, suc, ◌+◌, ◌-◌, ◌≤◌, ◌^◌, List, [], ◌∷◌, ◌++◌, map, length, Some, Ok, refl, ap, sym, ◌∙◌, subst, arith}
 use Rattle.std.specs.List.{AllByRecursion}
 use Rattle.std.proofs.lemmas.List.{length-map}
 use Rattle.czi_format.specs.Entry.{Entry}
 use Rattle.czi_format.specs.Layout.{Layout}
 use Rattle.czi_format.specs.Live.{Live, Tile, Directory}
-use Rattle.czi_format.specs.Segment.{extent, header_bytes, directory_id}
-use Rattle.czi_format.specs.Shows.{Reaches, subblock_at}
+use Rattle.czi_format.specs.Segment.{header_bytes, directory_id}
+use Rattle.czi_format.specs.Shows.{subblock_at}
 use Rattle.czi_format.specs.Space.{deleted_after}
 use Rattle.czi_format.specs.Span.{Span, round32}
-use Rattle.czi_image.specs.Holds.{Holds, lies_at, extent_of}
-use Rattle.czi_image.specs.Spans.{directory_span}
+use Rattle.czi_image.specs.Holds.{Holds}
 use Rattle.czi_image.specs.View.{tile_of}
 use Rattle.czi_image.specs.declared.index.Index.{Index}
-use Rattle.czi_image.specs.declared.types.DirItem.{DirItem}
 use Rattle.czi_machine.specs.Change.{out, brought}
 use Rattle.czi_machine.specs.Puts.{StandsWith, HasRoom}
 use Rattle.czi_machine.specs.Writes.{ReadsNew, Writes, WritesAround, WritesIn, PutsDeleted, deleted_segment, dead}
 use Rattle.czi_machine.specs.Written.{Piece, Puts, Wrote}
 use Rattle.czi_machine.proofs.NewDirectory.{directory_read}
 use Rattle.czi_machine.proofs.NewSegment.{written_stands}
-use Rattle.czi_machine.proofs.Clear.{HeaderAt, header_at_front}
 use Rattle.czi_region.specs.declared.block.Region.{Region}
 use Rattle.czi_space.specs.State.{MapState}
 use Rattle.czi_plan.specs.Around.{PutsAround}
-use Rattle.czi_plan.specs.Conditions.{HasHeaders}
 use Rattle.czi_plan.specs.Directory.{directory_at, directory_size, data_in}
 use Rattle.czi_plan.specs.Pieces.{pieces_of}
 use Rattle.czi_plan.specs.Removal.{Removes, removal, removed_places, freed_of, dead_of, left_entries, entries_without}
@@ -88,29 +84,3 @@ removal_written image other live x m i region p l l' holds r wrote long before a
       deleted = subst (λ z. AllByRecursion (PutsDeleted z pieces) l'.deleted) (sym a) (subst (AllByRecursion (PutsDeleted es0 pieces)) (sym b) put.deleted);
       gone = subst (AllByRecursion (λ (e : Span). Puts pieces e.at (header_bytes (deleted_segment e)))) (sym c) put.gone;
     }
-
--- the headers of an index
-directory_header : (o : Option DirItem) (d : Option Directory) → lies_at o ≡ extent_of d → (e : DirItem) → o ≡ Some e → 32 ≤ e.span.len
-directory_header None d is e there = absurd (none_some e there)
-  where
-    none_some : (e : DirItem) → None ≡ Some e → ⊥
-    none_some e s = cc
-directory_header (Some o) None is e there = absurd (clash is)
-  where
-    clash : Some (directory_span o) ≡ None → ⊥
-    clash s = cc
-directory_header (Some o) (Some d) is e there =
-    let same : directory_span o ≡ extent d.segment = inner (directory_span o) (extent d.segment) is in
-    let own : o ≡ e = item o e there in
-    omega (arith, ap (λ (s : Span). s.len) same, ap (λ (z : DirItem). z.span.len) own)
-  where
-    inner : (a b : Span) → Some a ≡ Some b → a ≡ b
-    inner a b s = cc
-
-    item : (a b : DirItem) → Some a ≡ Some b → a ≡ b
-    item a b s = cc
-
-pub reached_headers : (image : List ℕ) (live : Live) (x : Index) → Reaches image live → Holds live x → HasHeaders x
-reached_headers image live x reaches holds =
-    let h : HeaderAt image live.header.segment = header_at_front image live reaches in
-    record { file = omega (arith, h.large, holds.header.allocated); directory = λ e there. directory_header x.directory live.directory holds.directory e there }

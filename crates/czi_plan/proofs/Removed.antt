@@ -30,7 +30,7 @@ map_extents x m is =
     subst (AreExtents 0 m.length) is.extents (subst (λ n. AreExtents 0 n (map span_of x.extents.items)) is.length (free_extents 0 x.length (map span_of x.extents.items) (omega arith) x.free.apart x.free.aligned x.free.inside))
 
 -- the directory of an index
-directory_spans : (o : Option DirItem) → spans_of (option_to_list (option_map directory_place o)) ≡ option_to_list (option_map directory_span o)
+pub directory_spans : (o : Option DirItem) → spans_of (option_to_list (option_map directory_place o)) ≡ option_to_list (option_map directory_span o)
 directory_spans None = refl
 directory_spans (Some d) = refl
 
@@ -41,6 +41,10 @@ directory_long (Some d) long = (long d refl, tt)
 directory_ends : (n : ℕ) (o : Option DirItem) → AllByRecursion (λ (s : Span). end_of s ≤ n) (option_to_list (option_map directory_span o)) → AllByRecursion (λ (p : Place). end_of p.span ≤ n) (option_to_list (option_map directory_place o))
 directory_ends n None all = tt
 directory_ends n (Some d) all = (all.0, tt)
+
+-- every index has the headers for which a plan asks
+pub has_headers : (x : Index) → HasHeaders x
+has_headers x = record { file = x.headed; directory = λ d there. d.long }
 
 pub are_gone : (x : Index) (m : MapState) (i : ℕ) (t : Tile) → IsMapOf x m → HasHeaders x → i < length x.tiles.items → t ≡ get_or x.tiles.items i t → AreGone m.length (header_span x.header) (removed_places i x) m.extents
 are_gone x m i t is headers h e =

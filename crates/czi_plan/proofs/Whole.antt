@@ -1,13 +1,16 @@
 -- The plan of a removal is what its contract says.
-use Rattle.std.proofs.Common.{◌≡◌, ℕ, zero, suc, ◌+◌, ◌<◌, ◌≤◌, ◌^◌, List, [], ◌∷◌, ◌++◌, map, take, drop, length, get_or, max, Ok, refl, ap, sym, ◌∙◌, subst, arith}
+use Rattle.std.proofs.Common.{◌≡◌, ℕ, zero, suc, ◌+◌, ◌<◌, ◌≤◌, ◌^◌, List, [], ◌∷◌, ◌++◌, map, take, drop, length, get_or, max, Ok, refl, ap, sym, ◌∙◌, subst, arith, not}
 use Rattle.std.specs.List.{AllByRecursion}
+use Rattle.std.proofs.lemmas.List.{length-map}
+use Rattle.czi_format.specs.Layout.{Place}
 use Rattle.czi_format.specs.Entry.{Entry}
 use Rattle.czi_format.specs.Span.{Span, round32}
 use Rattle.czi_format.specs.Space.{Space, fit, use_all, use_span, deleted_after}
 use Rattle.czi_image.specs.Spans.{header_span}
 use Rattle.czi_image.specs.declared.index.Index.{Index}
-use Rattle.czi_links.specs.Record.{EndWithin}
+use Rattle.czi_links.specs.Record.{EndWithin, encoded_len}
 use Rattle.czi_machine.specs.Cover.{IsWhole}
+use Rattle.czi_machine.specs.Places.{can_be_used}
 use Rattle.czi_machine.specs.Puts.{PutsSegment}
 use Rattle.czi_num.specs.Span.{span_of}
 use Rattle.czi_num.specs.declared.span.Span.{Span as CodeSpan}
@@ -26,7 +29,9 @@ use Rattle.czi_plan.specs.Steps.{Head, IsHead, Stages, Linked, directory_header}
 use Rattle.czi_plan.specs.declared.plan.EditPlan.{EditPlan}
 use Rattle.czi_plan.proofs.Lists.{all_weaken, take_end}
 use Rattle.czi_plan.proofs.Order.{ordered}
+use Rattle.czi_plan.proofs.Brief.{few_heads, links_brief, spans_fewer, one_directory}
 use Rattle.czi_plan.proofs.Fits.{placed_ends}
+use Rattle.czi_plan.proofs.Gone.{removed_are}
 use Rattle.czi_plan.proofs.Parts.{IsUsed, used_place, used_free, fit_place, are_parts, to_whole}
 use Rattle.czi_plan.proofs.Placed.{plan_pieces}
 use Rattle.czi_plan.proofs.Planned.{IsPlanned, segment_put, around, links_end}
@@ -77,6 +82,15 @@ piece_bytes : (region : Region) (piece : Range) (data' : List ℕ) (n : ℕ) →
 piece_bytes region piece data' n put front whole long =
     ap (λ l. take piece.len (drop piece.at l)) put ∙ (ap (λ k. take piece.len (drop k data')) front ∙ (ap (λ k. take k data') whole ∙ take_end data' n (omega (arith, long))))
 
+pub parts_as : (n top : ℕ) (u u' f f' d d' es : List Span) → u' ≡ u → f' ≡ f → d' ≡ d → AreParts n top u f d es → AreParts n top u' f' d' es
+parts_as n top u u' f f' d d' es a b c parts = subst (λ l. AreParts n top l f' d' es) (sym a) (subst (λ l. AreParts n top u l d' es) (sym b) (subst (λ l. AreParts n top u f l es) (sym c) parts))
+
+-- a removal leaves two places behind at most
+removed_few : (x : Index) (i : ℕ) → i < length x.tiles.items → length (removed_places i x) ≤ 2
+removed_few x i inside =
+    let tile = element_at x.tiles.items i inside in
+    omega (arith, ap (length {A = Place}) (removed_are x i tile.0 inside tile.1), one_directory x.directory)
+
 -- What the steps of a removal have done.
 pub record Did (x : Index) (m : MapState) (i : ℕ) (es : List Entry) (region : Region) (old mid new : EditPlan) (h : Head) (freed dead : List CodeSpan) : Type 0 where
   pub of_index : IsMapOf x m
@@ -122,6 +136,19 @@ removes x m i es region old mid new h freed dead did =
     = ap (λ (w : List (ℕ × Range)). writes_in region w ++ links_as new.links.links) writes_are
     ∙ (ap (λ (b : List ℕ). (record { place = h.0.at + 32; bytes = b } ∷ []) ++ links_as new.links.links) bytes_are ∙ ap (λ l. record { place = h.0.at + 32; bytes = data' } ∷ links_as l) linked.whole) in
     let length_is : new.length ≡ top = did.same_length ∙ (st.end ∙ ap (λ n. max n (h.0.at + h.0.len)) did.start) in
+    let used_is : map span_of new.used.items ≡ span_of h.0 ∷ [] = ap (map span_of) (did.same_used ∙ used_are) in
+    let freed_is : map span_of new.freed.items ≡ freed_of (removed_places i x) = ap (map span_of) did.same_freed ∙ did.frees in
+    let own_parts : AreParts m.length top (map span_of new.used.items) (map span_of new.freed.items) (dead_of (removed_places i x)) m.extents
+    = parts_as m.length top _ _ _ _ _ _ m.extents used_is freed_is refl (removal_parts x m i es h.0 top did.of_index did.headers did.inside did.fits refl) in
+    let few : length hs ≤ 7 = omega (
+      arith,
+      few_heads m.length (span_of h.0 ∷ []) (freed_of (removed_places i x)) m.extents h dead hs parts.rise parts.takes linked.are,
+      removed_few x i did.inside,
+      spans_fewer can_be_used (removed_places i x),
+      spans_fewer (λ (p : Place). not (can_be_used p)) (removed_places i x),
+      length-map dead span_of,
+      ap (length {A = Span}) did.deads,
+    ) in
     let around_it = around m.length top h es m.extents (freed_of (removed_places i x)) dead hs planned i in
     record {
       span = span_of h.0;
@@ -132,8 +159,8 @@ removes x m i es region old mid new h freed dead did =
       length = length_is;
       small = omega (arith, parts.small, length_is);
       entries = st.entries;
-      used = ap (map span_of) (did.same_used ∙ used_are);
-      freed = ap (map span_of) did.same_freed ∙ did.frees;
+      used = used_is;
+      freed = freed_is;
       segment = subst (λ ps. PutsSegment ps (directory_at h.0.at es).segment data') (sym pieces_are) (segment_put m.length top h es m.extents (freed_of (removed_places i x)) dead hs planned);
       around = subst (λ ps. PutsAround (removal i h.0.at es) m.extents (deleted_after (span_of h.0 ∷ []) (freed_of (removed_places i x)) m.extents) (dead_of (removed_places i x)) ps) (sym pieces_are)
           (subst (λ d. PutsAround (removal i h.0.at es) m.extents (deleted_after (span_of h.0 ∷ []) (freed_of (removed_places i x)) m.extents) d (plan_pieces h.0.at data' hs)) did.deads around_it);
@@ -141,6 +168,13 @@ removes x m i es region old mid new h freed dead did =
       writes = subst (λ (w : List (ℕ × Range)). AllByRecursion (LiesFree m) (writes_in region w)) (sym writes_are)
           ((λ q low high. used_free m.length m.held m.extents (span_of h.0) q (map_extents x m did.of_index) (directory_used x m es h.0 did.of_index did.fits) low (omega (arith, high, ap length bytes_are, st.long, planned.size))), tt);
       links = subst (λ n. EndWithin n new.links.links) (sym length_is) (subst (EndWithin top) (sym linked.whole) (links_end m.length top h es m.extents (freed_of (removed_places i x)) dead hs planned));
+      piece = st.piece;
+      write = writes_are;
+      long = st.whole;
+      takes = own_parts.takes;
+      frees = own_parts.frees;
+      once = own_parts.once;
+      brief = omega (arith, ap encoded_len linked.whole, links_brief h.0.at hs planned.ordered.sizes, few);
     }
 
 pub fits_here : (m : MapState) (es fs : List Entry) (used : List CodeSpan) (s : CodeSpan) → used ≡ [] → es ≡ fs
@@ -150,9 +184,6 @@ fits_here m es fs used s none is fits =
 
 pub staged_as : (region : Region) (es fs : List Entry) (old new : EditPlan) (h : Head) → es ≡ fs → Stages es region old new h → Stages fs region old new h
 staged_as region es fs old new h is st = subst (λ l. Stages l region old new h) is st
-
-pub parts_as : (n top : ℕ) (u u' f f' d d' es : List Span) → u' ≡ u → f' ≡ f → d' ≡ d → AreParts n top u f d es → AreParts n top u' f' d' es
-parts_as n top u u' f f' d d' es a b c parts = subst (λ l. AreParts n top l f' d' es) (sym a) (subst (λ l. AreParts n top u l d' es) (sym b) (subst (λ l. AreParts n top u f l es) (sym c) parts))
 
 pub fit_size : (m : MapState) (es : List Entry) (s : Span) (space : Space) → fit (space_of m) (directory_need es) ≡ Ok (record { span = s; space = space }) → s.len ≡ directory_need es
 fit_size m es s space fits = (fit_place (space_of m) (directory_need es) (record { span = s; space = space }) fits).1

@@ -21,7 +21,7 @@ pub record IsMapOf (x : Index) (m : MapState) : Type 0 where
   pub length : x.length ≡ m.length
   pub held : AllByRecursion IsWhole m.held
 
--- The file header has its 80 bytes of data, and the directory its header: so it is of every index of an image.
+-- The file header has its 80 bytes of data, and the directory its header: so it is of every index.
 pub record HasHeaders (x : Index) : Type 0 where
   pub file : 80 ≤ x.header.allocated
   pub directory : ForSome x.directory (λ (d : DirItem). 32 ≤ d.span.len)

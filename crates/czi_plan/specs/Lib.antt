@@ -8,3 +8,4 @@ pub mod Geometry
 pub mod Placing
 pub mod Steps
 pub mod Written
+pub mod After

@@ -1,16 +1,17 @@
 -- The plan of a removal.
-use Rattle.std.specs.Prelude.{◌≡◌, ℕ, ◌≤◌, ◌^◌, List, [], ◌∷◌, ◌++◌, map, filter, not, Some, option_map, option_to_list, Ok}
+use Rattle.std.specs.Prelude.{◌≡◌, ℕ, ◌+◌, ◌≤◌, ◌^◌, List, [], ◌∷◌, ◌++◌, map, filter, not, Some, option_map, option_to_list, Ok}
 use Rattle.std.specs.List.{AllByRecursion}
 use Rattle.czi_format.specs.Entry.{Entry, IsEntry}
 use Rattle.czi_format.specs.Layout.{Place}
 use Rattle.czi_format.specs.Live.{Tile}
-use Rattle.czi_format.specs.Space.{Space, fit, deleted_after}
-use Rattle.czi_format.specs.Span.{Span, end_of}
+use Rattle.czi_format.specs.Space.{Space, fit, without, deleted_after}
+use Rattle.czi_format.specs.Span.{Span, end_of, span_le, sorted}
 use Rattle.czi_image.specs.Holds.{tile_place, directory_place}
 use Rattle.czi_image.specs.View.{tile_of}
 use Rattle.czi_image.specs.declared.index.Index.{Index}
-use Rattle.czi_links.specs.Record.{EndWithin}
+use Rattle.czi_links.specs.Record.{EndWithin, encoded_len}
 use Rattle.czi_machine.specs.Change.{changed, omitted, out, same, to}
+use Rattle.czi_machine.specs.Cover.{cover}
 use Rattle.czi_machine.specs.Places.{can_be_used}
 use Rattle.czi_machine.specs.Puts.{PutsSegment}
 use Rattle.czi_machine.specs.State.{spans_of}
@@ -22,6 +23,7 @@ use Rattle.czi_region.specs.declared.block.Region.{Region}
 use Rattle.czi_space.specs.State.{MapState, space_of}
 use Rattle.czi_plan.specs.Around.{PutsAround, LiesFree}
 use Rattle.czi_plan.specs.Directory.{directory_at, directory_need, directory_size, data_in}
+use Rattle.czi_plan.specs.Geometry.{AreUsed, AreFreed}
 use Rattle.czi_plan.specs.Pieces.{pieces_of, writes_in}
 use Rattle.czi_plan.specs.declared.plan.EditPlan.{EditPlan}
 use Rattle.czi_format.specs.Span.{round32}
@@ -66,3 +68,14 @@ pub record Removes (x : Index) (m : MapState) (i : ℕ) (es : List Entry) (regio
   pub staged : AllByRecursion (λ (w : ℕ × Range). IsPiece region w.1) p.writes.items
   pub writes : AllByRecursion (LiesFree m) (writes_in region p.writes.items)
   pub links : EndWithin p.length p.links.links
+  -- the one write: the directory's data, behind its header
+  pub piece : Range
+  pub write : p.writes.items ≡ (span.at + 32, piece) ∷ []
+  pub long : piece.len ≡ round32 (directory_size es)
+  -- what is used can be taken out of the map, and then what is freed be put into it
+  pub takes : AreUsed m.length (map span_of p.used.items) m.extents
+  pub frees : AreFreed m.length (sorted span_le (map span_of p.freed.items)) (without (map span_of p.used.items) m.extents)
+  -- no place lies in two of the new directory, the extents afterwards and what is freed for good
+  pub once : (q : ℕ) → cover (map span_of p.used.items) q + (cover (deleted_after (map span_of p.used.items) (map span_of p.freed.items) m.extents) q + cover (dead_of (removed_places i x)) q) ≤ 1
+  -- a record of the links fits a slot of the journal
+  pub brief : encoded_len p.links.links ≤ 262144

@@ -2,7 +2,6 @@
 use Rattle.std.specs.Prelude.{◌≡◌, ℕ, List, length}
 use Rattle.czi_format.specs.Layout.{Layout}
 use Rattle.czi_format.specs.Live.{Live}
-use Rattle.czi_format.specs.Shows.{Reaches}
 use Rattle.czi_format.specs.Space.{deleted_after}
 use Rattle.std.specs.Prelude.{[], ◌∷◌}
 use Rattle.czi_image.specs.Holds.{Holds}
@@ -11,14 +10,9 @@ use Rattle.czi_machine.specs.Writes.{ReadsNew, Writes, dead}
 use Rattle.czi_machine.specs.Written.{Wrote}
 use Rattle.czi_region.specs.declared.block.Region.{Region}
 use Rattle.czi_space.specs.State.{MapState}
-use Rattle.czi_plan.specs.Conditions.{HasHeaders}
 use Rattle.czi_plan.specs.Pieces.{pieces_of}
 use Rattle.czi_plan.specs.Removal.{Removes, removal, removed_places, freed_of, dead_of, left_entries}
 use Rattle.czi_plan.specs.declared.plan.EditPlan.{EditPlan}
-
--- the index of what the pointers of an image reach has all headers
-abbrev pub ReachedHasHeaders : Type 0
-ReachedHasHeaders = (image : List ℕ) (live : Live) (x : Index) → Reaches image live → Holds live x → HasHeaders x
 
 -- What was written is read: the new directory, with the entries that stay.
 abbrev pub RemovalIsRead : Type 0

@@ -4,7 +4,7 @@ ghost use Rattle.std.specs.Prelude.{◌≡◌, ◌+◌, ◌*◌, ◌≤◌, ◌+
 ghost use Rattle.czi_format.specs.Space.{without, with_all_freed, deleted_after};
 ghost use Rattle.czi_format.specs.Span.{span_le, sorted};
 ghost use Rattle.czi_num.specs.Span.{span_of};
-ghost use Rattle.czi_space.specs.State.{AreExtents};
+ghost use Rattle.czi_space.specs.State.{AreExtents, Has};
 ghost use Rattle.czi_plan.specs.Geometry.{AreFreed, AreUsed};
 ghost use Rattle.czi_plan.specs.Removal.{dead_of, freed_of};
 
@@ -38,6 +38,7 @@ fn take_all(used: &[Span], space: &mut Map)
     requires used { AreUsed space.old.length (map span_of used.now) space.old.extents }
     requires spare { 2 * length used.now ≤ space.old.spare }
     ensures extents { space.new.extents ≡ without (map span_of used.now) space.old.extents }
+    ensures held { space.new.held ≡ space.old.held }
     ensures length { space.new.length ≡ space.old.length }
     ensures spare { space.old.spare ≤ space.new.spare + 2 * length used.now }
 {
@@ -53,23 +54,32 @@ fn take_all(used: &[Span], space: &mut Map)
 fn free_all(freed: &[Span], space: &mut Map)
     requires freed { AreFreed space.old.length (map span_of freed.now) space.old.extents }
     requires spare { 2 * length freed.now ≤ space.old.spare }
-    ensures { space.new.extents ≡ with_all_freed (map span_of freed.now) space.old.extents }
+    ensures { Has space.new (with_all_freed (map span_of freed.now) space.old.extents) space.old.held space.old.length }
 {
     for span in freed {
         space.free(span);
     }
 }
 
-/// A map of the extents once some spans were used and others freed.
+/// A map of the extents once some spans were used and others freed. It holds nothing back, has the given length, which is
+/// at least that of the old map, and has memory for `spare` more extents and held spans.
+///
+/// # Errors
+///
+/// Where there is no memory for it.
 pub fn map_after(
     alloc: Global,
     space: &Map,
     used: &[Span],
     freed: &[Span],
+    spare: usize,
+    length: u64,
 ) -> Result<Map, AllocError>
     requires used { AreUsed space.now.length (map span_of used.now) space.now.extents }
     requires freed { AreFreed space.now.length (sorted span_le (map span_of freed.now)) (without (map span_of used.now) space.now.extents) }
-    ensures { IfOk result (λ m. m.extents ≡ deleted_after (map span_of used.now) (map span_of freed.now) space.now.extents) }
+    requires longer { space.now.length ≤ length }
+    ensures map { IfOk result (λ m. Has m (deleted_after (map span_of used.now) (map span_of freed.now) space.now.extents) [] length) }
+    ensures spare { IfOk result (λ m. spare ≤ m.spare) }
 {
     let mut in_order = freed.to_vec(alloc)?;
     sort_spans(&mut in_order);
@@ -77,5 +87,7 @@ pub fn map_after(
     after.reserve(2 * used.len() + 2 * freed.len())?;
     take_all(used, &mut after);
     free_all(&in_order, &mut after);
+    after.set_length(length);
+    after.reserve(spare)?;
     Ok(after)
 }

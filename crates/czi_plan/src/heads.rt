@@ -98,7 +98,7 @@ fn heads_of(
     requires parts { AreParts space.now.length out.now.length (map span_of out.now.used.items) (map span_of out.now.freed.items) (map span_of dead.now) space.now.extents }
     ensures { IfOk result (λ heads. AreHeads space.now.extents (map span_of out.now.used.items) (map span_of out.now.freed.items) new.now dead.now heads.items) }
 {
-    let after = map_after(alloc, space, &out.used, &out.freed)?;
+    let after = map_after(alloc, space, &out.used, &out.freed, 0, space.length())?;
     let mut heads = new.to_vec(alloc)?;
     push_new(space.extents(), after.extents(), &mut heads)?;
     push_dead(dead, &mut heads)?;

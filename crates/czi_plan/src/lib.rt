@@ -13,6 +13,8 @@ mod search;
 #[cfg(test)]
 mod tests;
 
-pub use laws::removal_written;
+pub use freeing::map_after;
+pub use laws::{removal_apart, removal_written};
 pub use plan::{EditPlan, PlanFault};
-pub use removal::plan_remove;
+pub use removal::{plan_remove, plan_remove_at};
+pub use search::tile_with;

@@ -8,7 +8,7 @@ ghost use Rattle.czi_image.specs.View.{tile_of};
 ghost use Rattle.czi_num.specs.Span.{span_of};
 ghost use Rattle.czi_region.specs.Pieces.{bytes_put};
 ghost use Rattle.czi_space.specs.State.{AreExtents, space_of};
-ghost use Rattle.czi_plan.specs.Conditions.{HasHeaders, IsEmpty, IsMapOf};
+ghost use Rattle.czi_plan.specs.Conditions.{IsEmpty, IsMapOf};
 ghost use Rattle.czi_plan.specs.Directory.{directory_need, entries_of};
 ghost use Rattle.czi_plan.specs.Placing.{IsCause};
 ghost use Rattle.czi_plan.specs.Removal.{Removes, dead_of, freed_of, left_entries, removed_places};
@@ -93,8 +93,12 @@ fn release_removed(
     Ok(())
 }
 
-/// Plans the removal of the subblock at a place of the directory.
-fn remove_at(
+/// Plans the removal of the subblock at a place of the directory, as `plan_remove` does.
+///
+/// # Errors
+///
+/// `Full` exactly where the new directory has no place, and else `Memory`. Nothing is said of `region` and `out` then.
+pub fn plan_remove_at(
     alloc: Global,
     index: &Index,
     space: &Map,
@@ -105,7 +109,6 @@ fn remove_at(
     requires empty { IsEmpty out.old }
     requires reset { bytes_put region.old ≡ [] }
     requires of_index { IsMapOf index.now space.now }
-    requires headers { HasHeaders index.now }
     requires inside { i < length index.now.tiles.items }
     ensures removes { OnOk result (Removes index.now space.now i (left_entries i index.now) region.new out.new) }
     ensures full { IfErr result (λ fault. IsCause fault (fit (space_of space.now) (directory_need (left_entries i index.now)))) }
@@ -139,11 +142,10 @@ pub fn plan_remove(
     requires empty { IsEmpty out.old }
     requires reset { bytes_put region.old ≡ [] }
     requires of_index { IsMapOf index.now space.now }
-    requires headers { HasHeaders index.now }
     requires some { IsSome (tile_with (dims_of dims.now) (map tile_of index.now.tiles.items)) }
     ensures removes { OnOk result ((i : ℕ) → tile_with (dims_of dims.now) (map tile_of index.now.tiles.items) ≡ Some i → Removes index.now space.now i (left_entries i index.now) region.new out.new) }
     ensures full { IfErr result (λ fault. (i : ℕ) → tile_with (dims_of dims.now) (map tile_of index.now.tiles.items) ≡ Some i → IsCause fault (fit (space_of space.now) (directory_need (left_entries i index.now)))) }
 {
     let i = tile_with(&index.tiles, dims).unwrap();
-    remove_at(alloc, index, space, i, region, out)
+    plan_remove_at(alloc, index, space, i, region, out)
 }

@@ -1,7 +1,7 @@
-ghost use Rattle.std.specs.Prelude.{◌≤◌, ◌^◌, IfOk, IsTrue};
+ghost use Rattle.std.specs.Prelude.{◌≤◌, ◌^◌, IfOk};
 ghost use Rattle.std.specs.List.{AllByRecursion};
 ghost use Rattle.czi_region.specs.Pieces.{IsPiece};
-ghost use Rattle.czi_plan.specs.Conditions.{HasHeaders, IsMapOf};
+ghost use Rattle.czi_plan.specs.Conditions.{IsMapOf};
 
 use crate::search::tile_with;
 use crate::{EditPlan, PlanFault, plan_remove};
@@ -72,16 +72,6 @@ fn map_of(alloc: Global, index: &Index) -> Result<Map, AllocError>
     Ok(Map::of_runs(alloc, extents, index.length))
 }
 
-// The header of the file and that of the directory are whole.
-fn has_headers(index: &Index) -> bool
-    ensures { IsTrue result → HasHeaders index.now }
-{
-    if let Some(directory) = &index.directory {
-        return directory.span.len >= 32 && index.header.allocated >= 80;
-    }
-    index.header.allocated >= 80
-}
-
 // The plan of a removal, and the bytes of its first write.
 fn planned(
     alloc: Global,
@@ -93,9 +83,6 @@ fn planned(
     let Some(_) = tile_with(index.tiles.as_slice(), &dims) else {
         return Err(Fail::from("no such subblock"));
     };
-    if !has_headers(index) {
-        return Err(Fail::from("no headers"));
-    }
     let mut region = Region::new(alloc);
     let mut plan = EditPlan::new(alloc);
     match plan_remove(alloc, index, &map, &dims, &mut region, &mut plan) {

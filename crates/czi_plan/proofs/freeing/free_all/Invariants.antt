@@ -8,6 +8,7 @@ abbrev pub invariant-loop-span : goal.invariant-loop-span
 invariant-loop-span l = record {
   left : AreFreed l.initial.space.length (map span_of (drop l.span-index l.freed)) l.space.extents;
   extents : with_all_freed (map span_of (drop l.span-index l.freed)) l.space.extents ≡ with_all_freed (map span_of l.freed) l.initial.space.extents;
+  held : l.space.held ≡ l.initial.space.held;
   size : l.space.length ≡ l.initial.space.length;
   spare : 2 * length (drop l.span-index l.freed) ≤ l.space.spare;
 }

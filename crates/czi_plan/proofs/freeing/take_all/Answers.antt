@@ -36,6 +36,10 @@ loop-span-preserved c =
       left = subst (AreUsed c.args.space.now.length (map span_of (drop (c.loop-span.span-index + 1) c.args.used.now))) (sym new) here.2;
       extents = ap (without (map span_of (drop (c.loop-span.span-index + 1) c.args.used.now))) new
           ∙ (sym (without_here span_of c.args.used.now c.loop-span.span-index c.span-item.result c.loop-span.space.extents c.loop-span-test.true c.span-item.is) ∙ c.loop-span.invariant.extents);
+      held = elim c.if-span-length.branch [
+        | then-span-length w ↦ ap (λ (m : MapState). m.held) w.space-is ∙ (w.take.ensures.map.held ∙ c.loop-span.invariant.held)
+        | else-span-length w ↦ ap (λ (m : MapState). m.held) w.space-is ∙ c.loop-span.invariant.held
+      ];
       size = elim c.if-span-length.branch [
         | then-span-length w ↦ ap (λ (m : MapState). m.length) w.space-is ∙ (w.take.ensures.map.length ∙ c.loop-span.invariant.size)
         | else-span-length w ↦ ap (λ (m : MapState). m.length) w.space-is ∙ c.loop-span.invariant.size

@@ -14,7 +14,7 @@ returns c =
     let after : List CodeSpan = c.extents-2.result.now in
     let dead : List CodeSpan = c.args.dead.now in
     let is_after : map span_of after ≡ deleted_after (map span_of c.args.out.now.used.items) (map span_of c.args.out.now.freed.items) before
-    = c.extents-2.ensures.extents ∙ (c.in_ok-after.ensures
+    = c.extents-2.ensures.extents ∙ (c.in_ok-after.ensures.map.extents
     ∙ (ap (λ (l : List CodeSpan). deleted_after (map span_of l) (map span_of c.deref-2.result.now) before) c.deref.ensures.value
     ∙ ap (λ (l : List CodeSpan). deleted_after (map span_of c.args.out.now.used.items) (map span_of l) before) c.deref-2.ensures.value)) in
     let copied : c.in_ok-heads.heads.items ≡ c.args.new.now = c.in_ok-heads.ensures.items_if_clones_equal (λ x y h i. (h.0 i, h.1 i)) in

@@ -13,9 +13,9 @@ use Rattle.czi_plan.specs.declared.plan.EditPlan.{EditPlan}
 use Rattle.czi_region.specs.declared.block.Piece.{Piece as Range}
 use Rattle.std.proofs.Common.{Vec, Global}
 use Rattle.czi_plan.proofs.Planned.{left_are}
-use Rattle.czi_plan.proofs.Removed.{map_extents}
+use Rattle.czi_plan.proofs.Removed.{has_headers, map_extents}
 use Rattle.czi_plan.proofs.Whole.{Fits, removal_parts, directory_is_head, removes, fits_here, staged_as, parts_as}
-use Rattle.czi_plan.proofs.removal.remove_at.Goals as goal
+use Rattle.czi_plan.proofs.removal.plan_remove_at.Goals as goal
 
 pub put_directory-requires-clause-rise : goal.put_directory-requires-clause-rise
 put_directory-requires-clause-rise c = map_extents c.args.index.now c.args.space.now c.requires.of_index
@@ -35,7 +35,7 @@ link-requires-clause-parts c =
     let fits : Fits c.args.space.now (left_entries c.args.i c.args.index.now) c.in_ok-head.head.0 = fits_here c.args.space.now _ _ c.args.out.now.used.items c.in_ok-head.head.0 c.requires.empty.used left c.in_ok-head.ensures.placed in
     let st : Stages (left_entries c.args.i c.args.index.now) c.put_directory.new.region (record { writes = c.args.out.now.writes; links = c.args.out.now.links; used = c.args.out.now.used; freed = c.args.out.now.freed; length = c.length-out.result }) c.put_directory.new.out c.in_ok-head.head
     = staged_as c.put_directory.new.region _ _ _ c.put_directory.new.out c.in_ok-head.head left c.in_ok-head.ensures.staged in
-    let parts = removal_parts c.args.index.now c.args.space.now c.args.i (left_entries c.args.i c.args.index.now) c.in_ok-head.head.0 c.put_directory.new.out.length c.requires.of_index c.requires.headers c.requires.inside fits
+    let parts = removal_parts c.args.index.now c.args.space.now c.args.i (left_entries c.args.i c.args.index.now) c.in_ok-head.head.0 c.put_directory.new.out.length c.requires.of_index (has_headers c.args.index.now) c.requires.inside fits
     (st.end ∙ ap (λ n. max n (c.in_ok-head.head.0.at + c.in_ok-head.head.0.len)) c.length-out.ensures) in
     let used : map span_of c.put_directory.new.out.used.items ≡ span_of c.in_ok-head.head.0 ∷ [] = ap (map span_of) (st.used ∙ ap (λ l. l ++ c.in_ok-head.head.0 ∷ []) c.requires.empty.used) in
     let freed : map span_of c.release_removed.new.freed.items ≡ freed_of (removed_places c.args.i c.args.index.now)
@@ -62,7 +62,7 @@ returns-clause-removes c =
     removes c.args.index.now c.args.space.now c.args.i (left_entries c.args.i c.args.index.now) c.put_directory.new.region
     (record { writes = c.args.out.now.writes; links = c.args.out.now.links; used = c.args.out.now.used; freed = c.args.out.now.freed; length = c.length-out.result }) c.put_directory.new.out c.link.new.out c.in_ok-head.head c.release_removed.new.freed.items c.deref-3.result.now (record {
       of_index = c.requires.of_index;
-      headers = c.requires.headers;
+      headers = has_headers c.args.index.now;
       inside = c.requires.inside;
       empty = record { writes = c.requires.empty.writes; links = c.requires.empty.links; used = c.requires.empty.used; freed = c.requires.empty.freed };
       start = c.length-out.ensures;
