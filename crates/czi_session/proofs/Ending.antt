@@ -1,5 +1,5 @@
 -- How a run ends, after its commands.
-use Rattle.std.proofs.Common.{◌≡◌, ◌⊎◌, inl, inr, ⊎_elim, ℕ, ◌+◌, ◌<◌, ◌≤◌, List, [], ◌∷◌, ◌++◌, length, Option, Some, Result, Ok, Err, sym, ap, refl, ◌∙◌, arith, subst, take}
+use Rattle.std.proofs.Common.{◌≡◌, inl, inr, ⊎_elim, ℕ, ◌<◌, ◌≤◌, List, [], ◌∷◌, ◌++◌, length, Option, Some, Result, Ok, Err, sym, ap, refl, ◌∙◌, arith, subst}
 use Rattle.std.specs.Prelude.{MatchResult, IfErr, OnOk, ◌^◌}
 use Rattle.std.specs.List.{concat}
 use Rattle.std.proofs.lemmas.List.{append-nil}
@@ -20,7 +20,7 @@ use Rattle.czi_session.specs.declared.stop.Ended.TheVariants.{Done, Refused, Sto
 use Rattle.czi_session.specs.Text.{fault_line, last_text}
 use Rattle.czi_session.specs.Course.{Model, Stands, Open, WhileSaid, WithinStep, OpensToPrefix, OpensWhatever, From, Begins, Starts, state_after, replies}
 use Rattle.czi_session.specs.Causes.{HasCauseIn, StepCauses, EndsWithCause}
-use Rattle.czi_session.specs.Ends.{Between, Whole, StopsAt, RunStops, TextStops, TextCauses, StepStops, OneStops, OneEnds, OpeningSays, OpeningEnds, EndsSo, Quiet, Answers}
+use Rattle.czi_session.specs.Ends.{Whole, StopsAt, RunStops, TextStops, TextCauses, OneStops, OneEnds, OpeningEnds, EndsSo, Quiet, Answers}
 use Rattle.czi_session.proofs.Course.{prefix_between, prefix_step, prefix_last}
 use Rattle.czi_session.proofs.Spoken.{said_known_of}
 

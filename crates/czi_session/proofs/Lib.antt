@@ -4,3 +4,4 @@ pub mod Ending
 pub mod Midway
 pub mod Spoken
 mod Trials
+pub mod Refusing

@@ -15,7 +15,7 @@ use Rattle.czi_script.specs.declared.command.Command.{Command as CodeCommand}
 use Rattle.czi_script.specs.declared.kind.Kind.{Kind}
 use Rattle.czi_script.specs.declared.error.ScriptError.{ScriptError}
 use Rattle.czi_script.specs.declared.error.ScriptError.TheVariants.{Fault as FaultError, Input as InputError, TooLong as TooLongError, Memory as MemoryError}
-use Rattle.czi_script.specs.Script.{Command, End, Done, Reads, Spells, SpellAll, HasNo}
+use Rattle.czi_script.specs.Script.{Command, End, Reads, Spells, SpellAll, HasNo}
 use Rattle.czi_script.specs.Reader.{Reader, IsReader, ahead, unused, room, FindsError, FindsSome, LeavesSome, LeavesError, CountsError, TakesFirst, lost_by}
 use Rattle.czi_script.specs.View.{command_of}
 use Rattle.czi_script.specs.Course.{StopsSo, Midway as InScript}

@@ -4,7 +4,7 @@ use Rattle.std.specs.Prelude.{option_map}
 use Rattle.czi_script.specs.Script.{Command}
 use Rattle.czi_session.specs.Course.{Model, Stands, EitherSide, WhileSaid, WithinStep, OpensNow, OpensWhatever}
 use Rattle.czi_rig.specs.declared.rig.Rig.{Ghosts}
-use Rattle.czi_rig.specs.Disk.{Disk, Left}
+use Rattle.czi_rig.specs.Disk.{Disk}
 use Rattle.czi_rig.specs.State.{State, SameFiles, MayLeaveSaying}
 use Rattle.czi_rig.specs.Passes.{Passes}
 use Rattle.czi_rig.specs.Moments.{Throughout, LeavesSaying}

@@ -27,11 +27,11 @@ module _ {D : Type 0} (rig : Ghosts D) (only : OnlyNow rig) (old new : D) (said 
     before = r.moments;
     after = started rig new (Open counting s said);
     always = always rig (resting h.now) only r.known (started rig new (Open counting s said))
-        (λ i j o l. (ap (λ (x : List ℕ). length x) (left_settled h.now.image.seen i l.image_is) ∙ h.opens, l.said_is ∙ h.said_is));
+        (λ i j o l. (ap (λ (x : List ℕ). length x) (left_settled h.now.image.seen i l.image_is) ∙ h.begins, l.said_is ∙ h.said_is));
   }
 
   pub stood : Stands counting Counts (rig.state new) said s
-  stood = record { now = resting h.now; known = r.known; said_is = h.said_is; stands = record { rest = refl; count = h.opens } }
+  stood = record { now = resting h.now; known = r.known; said_is = h.said_is; stands = record { rest = refl; count = h.begins } }
 
 length_more : (seen : List ℕ) (at : ℕ) → at ≡ length seen → length (overwritten at (0 ∷ []) seen) ≡ length seen + 1
 length_more seen at is = grind (arith, common_steps)

@@ -1,5 +1,5 @@
 -- When a run stops.
-use Rattle.std.specs.Prelude.{◌≡◌, ◌≢◌, ℕ, Result, Ok, Err}
+use Rattle.std.specs.Prelude.{ℕ}
 use Rattle.czi_rig.specs.State.{State}
 use Rattle.czi_rig.specs.Passes.{Rose}
 use Rattle.czi_script.specs.declared.error.ScriptError.{ScriptError}
@@ -67,3 +67,21 @@ abbrev pub OpenedCauses : Ended → State → State → Type 0
 OpenedCauses Done old new = ⊥
 OpenedCauses Refused old new = Unit {0}
 OpenedCauses (Stopped stop) old new = StepCauses stop old new
+
+-- an ending to which no script and no input can lead
+abbrev pub EndsAlone : Ended → Type 0
+EndsAlone Done = Unit {0}
+EndsAlone Refused = Unit {0}
+EndsAlone (Stopped Image) = Unit {0}
+EndsAlone (Stopped Journal) = Unit {0}
+EndsAlone (Stopped Output) = Unit {0}
+EndsAlone (Stopped Memory) = Unit {0}
+EndsAlone (Stopped Input) = ⊥
+EndsAlone (Stopped (Script number kind)) = ⊥
+EndsAlone (Stopped TooLong) = ⊥
+
+-- the same, before any command was done
+abbrev pub EndsUnopened : Ended → Type 0
+EndsUnopened Done = ⊥
+EndsUnopened Refused = Unit {0}
+EndsUnopened (Stopped stop) = EndsAlone (Stopped stop)

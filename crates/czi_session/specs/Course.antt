@@ -7,11 +7,13 @@ use Rattle.czi_rig.specs.State.{State, Instant}
 use Rattle.czi_rig.specs.declared.rig.Rig.{Ghosts}
 use Rattle.czi_rig.specs.Moments.{Devices, devices, Throughout, Always}
 
--- What an editor is about: its states, which of them an image and a journal open to, which pairs are refused and with what
--- text, which journals are void, what a command makes of a state, and its reply there.
+-- What an editor is about: its states; which of them an image and a journal that a crash leaves open to; at which of them a
+-- run over an image and a journal begins; which pairs are refused and with what text; which journals are void; what a
+-- command makes of a state, and its reply there.
 pub record Model : Type 1 where
   pub Document : Type 0
   pub opens : List ℕ → List ℕ → Document → Type 0
+  pub begins : List ℕ → List ℕ → Document → Type 0
   pub refuses : List ℕ → List ℕ → List ℕ → Type 0
   pub void : List ℕ → Type 0
   pub after : Document → Command → Document
@@ -80,12 +82,12 @@ WithinStep m s c before image journal said = EitherSide m s c before image journ
 abbrev pub Open : (m : Model) → m.Document → List ℕ → Instant
 Open m s before image journal said = m.opens image journal s × (said ≡ before)
 
--- what reads give opens to this state
+-- what reads give are the image and the journal of a run that begins at this state
 pub record Opening (m : Model) (state : State) (said : List ℕ) (s : m.Document) : Type 0 where
   pub now : Devices
   pub known : devices state ≡ Some now
   pub said_is : now.said ≡ said
-  pub opens : m.opens now.image.seen now.journal.seen s
+  pub begins : m.begins now.image.seen now.journal.seen s
 
 -- whatever a crash leaves of both files opens to this state
 abbrev pub OpensWhatever : (m : Model) → Disk → Disk → m.Document → Type 0
@@ -119,3 +121,7 @@ pub record Begins (m : Model) (left : Option (List ℕ)) (state : State) (cs : L
 -- the law of an editor: whatever a crash leaves of the files that it stands on opens to its state
 abbrev pub OpensNow : (m : Model) → (Disk → Disk → m.Document → Type 0) → Type 0
 OpensNow m on = (image journal : Disk) (s : m.Document) → on image journal s → OpensWhatever m image journal s
+
+-- what reads give isn't refused
+abbrev pub IsUnrefused : Model → State → Type 0
+IsUnrefused m state = (all : Devices) (text : List ℕ) → devices state ≡ Some all → m.refuses all.image.seen all.journal.seen text → ⊥

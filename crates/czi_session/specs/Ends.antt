@@ -1,5 +1,5 @@
 -- How a run ends.
-use Rattle.std.specs.Prelude.{◌≡◌, ◌⊎◌, ◌≢◌, ℕ, ◌+◌, ◌<◌, ◌≤◌, ◌^◌, List, [], ◌∷◌, ◌++◌, length, take, drop, Option, Some, Result, Ok, Err}
+use Rattle.std.specs.Prelude.{◌≡◌, ◌⊎◌, ℕ, ◌+◌, ◌<◌, ◌≤◌, ◌^◌, List, [], ◌∷◌, ◌++◌, length, take, drop, Option, Some, Result, Ok, Err}
 use Rattle.std.specs.Option.{ForSome}
 use Rattle.std.specs.List.{concat}
 use Rattle.czi_rig.specs.Disk.{Disk}
@@ -8,11 +8,8 @@ use Rattle.czi_rig.specs.Moments.{Devices, devices}
 use Rattle.czi_rig.specs.Passes.{Rose}
 use Rattle.czi_script.specs.declared.kind.Kind.{Kind}
 use Rattle.czi_script.specs.Script.{Command, End, Done as DoneOf, Fault, SpellAll, HasNo}
-use Rattle.czi_script.specs.Reader.{limit}
 use Rattle.czi_script.specs.Course.{StopsSo}
 use Rattle.czi_script.specs.declared.error.ScriptError.TheVariants.{Fault as FaultError}
-use Rattle.czi_session.specs.declared.stop.EditorStop.{EditorStop}
-use Rattle.czi_session.specs.declared.stop.EditorStop.TheVariants.{Image as ImageOf, Journal as JournalOf, Memory as MemoryOf}
 use Rattle.czi_session.specs.declared.stop.OpenStop.{OpenStop}
 use Rattle.czi_session.specs.declared.stop.OpenStop.TheVariants.{Refused as RefusedOf, Stopped as StoppedOf}
 use Rattle.czi_session.specs.declared.stop.Stop.{Stop}

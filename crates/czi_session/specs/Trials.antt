@@ -14,6 +14,7 @@ abbrev pub counting : Model
 counting = record {
   Document = ℕ;
   opens = λ image journal s. length image ≡ s;
+  begins = λ image journal s. length image ≡ s;
   refuses = λ image journal text. ⊥;
   void = λ journal. Unit {0};
   after = λ s c. s + 1;

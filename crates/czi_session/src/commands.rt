@@ -1,6 +1,6 @@
 //! The commands of a script, one after another.
 
-ghost use Rattle.std.specs.Prelude.{◌≡◌, ◌++◌, ◌≤◌, List, ℕ, Option, MatchResult, IfErr, is_some};
+ghost use Rattle.std.specs.Prelude.{◌≡◌, ◌++◌, ◌≤◌, List, ℕ, Option, MatchResult, IfErr, OnOk, is_some};
 ghost use Rattle.czi_rig.specs.Passes.{GoesOn};
 ghost use Rattle.czi_rig.specs.Moments.{Throughout};
 ghost use Rattle.czi_script.specs.Script.{Command as Cmd, End};
@@ -33,11 +33,13 @@ pub(crate) fn commands<E: Editor, R: Rig, S: Source>(
     rig: &mut R,
     input: &mut S,
 ) -> Result<(), Stop>
+    requires ready { E.ready editor.old (R.state rig.old) }
     ensures moments { (cs : List Cmd) (end : End) (said : List ℕ) (s : E.model.Document) → Starts E.model (E.stands editor.old) (S.input input.old).left (R.state rig.old) cs end said s →
         (last : List ℕ) → Throughout R.Rig rig.old rig.new (OpensToPrefix E.model s cs last said) }
     ensures ends { (cs : List Cmd) (end : End) (said : List ℕ) (s : E.model.Document) → (h : Starts E.model (E.stands editor.old) (S.input input.old).left (R.state rig.old) cs end said s) →
         MatchResult result (λ _. Whole E.model (E.stands editor.new) (R.state rig.new) (S.input input.new).left s cs end said h.input)
         (λ stop. StopsAt E.model (OpensWhatever E.model) (R.state rig.new) (S.input input.new).left s cs end said h.input stop) }
+    ensures ready { OnOk result (E.ready editor.new (R.state rig.new)) }
     ensures takes { Takes (S.input input.old).left (S.input input.new).left (most_taken result) }
     ensures goes_on { GoesOn (R.state rig.old) (R.state rig.new) }
     ensures later { (S.input input.old).faults ≤ (S.input input.new).faults }

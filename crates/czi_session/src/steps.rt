@@ -1,12 +1,12 @@
 //! The steps of a run.
 
-ghost use Rattle.std.specs.Prelude.{◌≡◌, ◌⊎◌, ◌++◌, List, ℕ, Option, MatchResult, IfErr, OnOk};
+ghost use Rattle.std.specs.Prelude.{◌≡◌, ◌⊎◌, ◌++◌, List, ℕ, Option, MatchResult, IfOk, IfErr, OnOk};
 ghost use Rattle.std.specs.Option.{ForSome};
 ghost use Rattle.czi_rig.specs.State.{seen_of};
 ghost use Rattle.czi_rig.specs.Passes.{GoesOn, Rose};
 ghost use Rattle.czi_rig.specs.Moments.{Throughout, Devices, devices};
 ghost use Rattle.czi_script.specs.View.{command_of};
-ghost use Rattle.czi_session.specs.Course.{Stands, Open, Opening, OpensWhatever, From, Nothing, WithinStep, WhileSaid};
+ghost use Rattle.czi_session.specs.Course.{Stands, Open, Opening, OpensWhatever, From, IsUnrefused, Nothing, WithinStep, WhileSaid};
 ghost use Rattle.czi_session.specs.Causes.{StepCauses, OpenedCauses};
 ghost use Rattle.czi_session.specs.Ends.{StepStops, TextStops, TextCauses, OpeningEnds, RefusedSo};
 ghost use Rattle.czi_session.specs.Text.{fault_line};
@@ -35,6 +35,8 @@ pub(crate) fn opened<E: Editor, R: Rig>(alloc: Global, rig: &mut R) -> Result<E,
     ensures opens { (said : List ℕ) (s : E.model.Document) → Opening E.model (R.state rig.old) said s → MatchResult result
         (λ editor. From R.Rig rig.old rig.new (Open E.model s said) × Stands E.model (E.stands editor) (R.state rig.new) said s)
         (λ ended. OpeningEnds (R.state rig.new) said ended × (Nothing R.Rig rig.old rig.new ⊎ From R.Rig rig.old rig.new (Open E.model s said))) }
+    ensures ready { IfOk result (λ editor. E.ready editor (R.state rig.new)) }
+    ensures unrefused { OnOk result (IsUnrefused E.model (R.state rig.old)) }
     ensures refused { IfErr result (λ ended. ended ≡ Ended.Refused → RefusedSo E.model (R.state rig.old) (R.state rig.new)) }
     ensures goes_on { GoesOn (R.state rig.old) (R.state rig.new) }
     ensures cause { IfErr result (λ ended. OpenedCauses ended (R.state rig.old) (R.state rig.new)) }
@@ -53,10 +55,12 @@ pub(crate) fn step<E: Editor, R: Rig>(
     rig: &mut R,
     command: &Command,
 ) -> Result<(), Stop>
+    requires ready { E.ready editor.old (R.state rig.old) }
     ensures moments { (said : List ℕ) (s : E.model.Document) → Stands E.model (E.stands editor.old) (R.state rig.old) said s →
         Throughout R.Rig rig.old rig.new (WithinStep E.model s (command_of command.now) said) }
     ensures ok { OnOk result ((said : List ℕ) (s : E.model.Document) → Stands E.model (E.stands editor.old) (R.state rig.old) said s →
         Stands E.model (E.stands editor.new) (R.state rig.new) (said ++ E.model.reply s (command_of command.now)) (E.model.after s (command_of command.now))) }
+    ensures ready { OnOk result (E.ready editor.new (R.state rig.new)) }
     ensures stops { IfErr result (λ stop. (said : List ℕ) (s : E.model.Document) → Stands E.model (E.stands editor.old) (R.state rig.old) said s →
         StepStops E.model (OpensWhatever E.model) (R.state rig.new) s (command_of command.now) said stop) }
     ensures goes_on { GoesOn (R.state rig.old) (R.state rig.new) }
@@ -74,6 +78,7 @@ pub(crate) fn step<E: Editor, R: Rig>(
 
 /// Seals the journal.
 pub(crate) fn sealed<E: Editor, R: Rig>(editor: E, rig: &mut R) -> Result<(), Stop>
+    requires ready { E.ready editor (R.state rig.old) }
     ensures moments { (said : List ℕ) (s : E.model.Document) → Stands E.model (E.stands editor) (R.state rig.old) said s → Throughout R.Rig rig.old rig.new (Open E.model s said) }
     ensures ok { OnOk result ((said : List ℕ) (s : E.model.Document) → Stands E.model (E.stands editor) (R.state rig.old) said s → Stands E.model (OpensWhatever E.model) (R.state rig.new) said s) }
     ensures void { OnOk result (ForSome (seen_of (R.state rig.new) File.Journal) E.model.void) }

@@ -1,4 +1,4 @@
-ghost use Rattle.std.specs.Prelude.{◌≡◌, ◌++◌, OnOk};
+ghost use Rattle.std.specs.Prelude.{◌≡◌, ◌++◌, OnOk, ⊤};
 ghost use Rattle.czi_session.specs.Trials.{counting, Counts, ok_line, opens_counts, says_ok};
 
 use crate::{Editor, EditorStop, Ended, OpenStop, Stop, edit, one};
@@ -23,6 +23,10 @@ impl Editor for Counter {
     ghost model = { counting };
 
     ghost stands = { λ editor image journal s. Counts image journal s };
+
+    ghost ready = { λ editor state. ⊤ };
+
+    ghost stays_ready = { λ editor old new ready same on. ready };
 
     ghost opens_now = { λ editor image journal s. opens_counts image journal s };
 

@@ -4,12 +4,12 @@ ghost use Rattle.std.specs.Prelude.{◌≡◌, ◌⊎◌, ◌++◌, ◌∷◌, �
 ghost use Rattle.std.specs.Option.{ForSome};
 ghost use Rattle.czi_rig.specs.State.{seen_of};
 ghost use Rattle.czi_rig.specs.Passes.{GoesOn};
-ghost use Rattle.czi_rig.specs.Moments.{Throughout};
+ghost use Rattle.czi_rig.specs.Moments.{Devices, Throughout, devices};
 ghost use Rattle.czi_script.specs.Script.{Command as Cmd, End};
 ghost use Rattle.czi_script.specs.View.{command_of};
-ghost use Rattle.czi_session.specs.Course.{Starts, Begins, Opening, Nothing, From, Stands, OpensToPrefix, OpensWhatever};
+ghost use Rattle.czi_session.specs.Course.{Starts, Begins, IsUnrefused, Opening, Nothing, From, Stands, OpensToPrefix, OpensWhatever};
 ghost use Rattle.czi_session.specs.Text.{last_text};
-ghost use Rattle.czi_session.specs.Causes.{HasCauseIn, StepCauses, EndsWithCause, OpenedCauses};
+ghost use Rattle.czi_session.specs.Causes.{HasCauseIn, StepCauses, EndsAlone, EndsUnopened, EndsWithCause, OpenedCauses};
 ghost use Rattle.czi_session.specs.Ends.{Whole, RunStops, EndsSo, OneStops, OneEnds, RefusedSo, Takes, most_taken, most_of, Quiet, Answers};
 
 use crate::commands::commands;
@@ -26,6 +26,7 @@ fn script<E: Editor, R: Rig, S: Source>(
     rig: &mut R,
     input: &mut S,
 ) -> Result<(), Stop>
+    requires ready { E.ready editor (R.state rig.old) }
     ensures moments { (cs : List Cmd) (end : End) (said : List ℕ) (s : E.model.Document) → Starts E.model (E.stands editor) (S.input input.old).left (R.state rig.old) cs end said s →
         Throughout R.Rig rig.old rig.new (OpensToPrefix E.model s cs (last_text end) said) }
     ensures ends { (cs : List Cmd) (end : End) (said : List ℕ) (s : E.model.Document) → (h : Starts E.model (E.stands editor) (S.input input.old).left (R.state rig.old) cs end said s) →
@@ -54,6 +55,7 @@ fn single<E: Editor, R: Rig>(
     rig: &mut R,
     command: &Command,
 ) -> Result<(), Stop>
+    requires ready { E.ready editor (R.state rig.old) }
     ensures moments { (said : List ℕ) (s : E.model.Document) → Stands E.model (E.stands editor) (R.state rig.old) said s →
         Throughout R.Rig rig.old rig.new (OpensToPrefix E.model s (command_of command.now ∷ []) [] said) }
     ensures ends { (said : List ℕ) (s : E.model.Document) → Stands E.model (E.stands editor) (R.state rig.old) said s →
@@ -78,6 +80,7 @@ fn edit_all<E: Editor, R: Rig, S: Source>(alloc: Global, rig: &mut R, input: &mu
         EndsSo E.model (R.state rig.new) (S.input input.new).left s cs end said h.input result }
     ensures void { result ≡ Ended.Done → ForSome (seen_of (R.state rig.new) File.Journal) E.model.void }
     ensures refused { result ≡ Ended.Refused → RefusedSo E.model (R.state rig.old) (R.state rig.new) }
+    ensures refuses { IsUnrefused E.model (R.state rig.old) ⊎ EndsUnopened result }
     ensures takes { Takes (S.input input.old).left (S.input input.new).left (most_of result) }
     ensures goes_on { GoesOn (R.state rig.old) (R.state rig.new) }
     ensures later { (S.input input.old).faults ≤ (S.input input.new).faults }
@@ -99,6 +102,8 @@ fn one_alone<E: Editor, R: Rig>(alloc: Global, rig: &mut R, command: &Command) -
     ensures ends { (said : List ℕ) (s : E.model.Document) → Opening E.model (R.state rig.old) said s → OneEnds E.model (R.state rig.new) s (command_of command.now) said result }
     ensures void { result ≡ Ended.Done → ForSome (seen_of (R.state rig.new) File.Journal) E.model.void }
     ensures refused { result ≡ Ended.Refused → RefusedSo E.model (R.state rig.old) (R.state rig.new) }
+    ensures refuses { IsUnrefused E.model (R.state rig.old) ⊎ EndsUnopened result }
+    ensures alone { EndsAlone result }
     ensures goes_on { GoesOn (R.state rig.old) (R.state rig.new) }
     ensures cause { EndsWithCause result (R.state rig.old) (R.state rig.new) 0 0 }
 {
@@ -133,6 +138,9 @@ pub fn edit<E: Editor, R: Rig, S: Source>(alloc: Global, rig: &mut R, input: &mu
     // Where the script ends well and no fault comes, all is done, or memory is wanting.
     ensures complete { (cs : List Cmd) (said : List ℕ) (s : E.model.Document) → (h : Begins E.model (S.input input.old).left (R.state rig.old) cs End.Done said s) → length h.input ≤ 2 ^ 40 →
         Quiet (R.state rig.old) (R.state rig.new) (S.input input.old).faults (S.input input.new).faults → Answers Ended.Done result }
+    // A pair that is refused is told so, unless a fault comes or memory is wanting.
+    ensures refuses { (all : Devices) (text : List ℕ) → devices (R.state rig.old) ≡ Option.Some all → E.model.refuses all.image.seen all.journal.seen text →
+        Quiet (R.state rig.old) (R.state rig.new) (S.input input.old).faults (S.input input.new).faults → Answers Ended.Refused result }
 {
     edit_all::<E, R, S>(alloc, rig, input)
 }
@@ -146,7 +154,10 @@ pub fn one<E: Editor, R: Rig>(alloc: Global, rig: &mut R, command: &Command) -> 
     ensures refused { result ≡ Ended.Refused → RefusedSo E.model (R.state rig.old) (R.state rig.new) }
     ensures goes_on { GoesOn (R.state rig.old) (R.state rig.new) }
     ensures cause { EndsWithCause result (R.state rig.old) (R.state rig.new) 0 0 }
+    ensures alone { EndsAlone result }
     ensures complete { (said : List ℕ) (s : E.model.Document) → Opening E.model (R.state rig.old) said s → Quiet (R.state rig.old) (R.state rig.new) 0 0 → Answers Ended.Done result }
+    ensures refuses { (all : Devices) (text : List ℕ) → devices (R.state rig.old) ≡ Option.Some all → E.model.refuses all.image.seen all.journal.seen text →
+        Quiet (R.state rig.old) (R.state rig.new) 0 0 → Answers Ended.Refused result }
 {
     one_alone::<E, R>(alloc, rig, command)
 }

@@ -12,6 +12,7 @@ loop-command-init g c = record {
   taken = taken_first _ c.in-Ok.reader c.in-Ok.ensures;
   sound = sound_first c.in-Ok.reader c.in-Ok.ensures;
   none = ap (λ r. r.error) c.in-Ok.ensures;
+  ready = c.requires.ready;
   goes_on = search arith;
   later = omega arith;
 }
@@ -32,6 +33,7 @@ loop-command-preserved-in_ok-step-in-Ok-Some g c =
       taken = taken_on _ left _ c.loop-command.reader c.next.new.self inv.taken (c.in-Ok-Some.ensures.takes inv.none);
       sound = c.next.ensures.sound;
       none = c.in-Ok-Some.ensures.keeps;
+      ready = c.in_ok-step-in-Ok-Some.ensures.ready;
       goes_on = goes_then _ _ _ inv.goes_on c.step.ensures.goes_on;
       later = omega (arith, inv.later, c.next.ensures.later);
     }
@@ -52,6 +54,7 @@ loop-command-preserved g c =
       taken = taken_on _ left _ c.loop-command.reader c.next.new.self inv.taken (c.in-Ok-Some.ensures.takes inv.none);
       sound = c.next.ensures.sound;
       none = c.in-Ok-Some.ensures.keeps;
+      ready = c.in_ok-step-in-Ok-Some.ensures.ready;
       goes_on = goes_then _ _ _ inv.goes_on c.step.ensures.goes_on;
       later = omega (arith, inv.later, c.next.ensures.later);
     }

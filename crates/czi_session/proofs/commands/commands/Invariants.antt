@@ -16,6 +16,7 @@ invariant-loop-command g l = record {
   taken : TakenSoFar (g.S.Source.input l.initial.input).left (g.S.Source.input l.input).left l.reader.taken;
   sound : IsReader l.reader;
   none : l.reader.error ≡ None;
+  ready : g.E.Editor.ready l.editor (g.R.Rig.state l.rig);
   goes_on : GoesOn (g.R.Rig.state l.initial.rig) (g.R.Rig.state l.rig);
   later : (g.S.Source.input l.initial.input).faults ≤ (g.S.Source.input l.input).faults;
 }

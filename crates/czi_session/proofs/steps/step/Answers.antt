@@ -35,3 +35,6 @@ returns-in-Ok-clause-stops g c = λ said s h.
       stands_open m (g.E.Editor.stands c.perform.new.self) (g.met.E.Editor.opens_now c.perform.new.self) (g.R.Rig.state c.say.new.self) _ _
           (said_stands m (g.E.Editor.stands c.perform.new.self) (g.R.Rig.state c.perform.new.rig) (g.R.Rig.state c.say.new.self) said _ _ _ done.1 (ap (λ (x : List ℕ). take some.0 x) is) c.say.ensures.files some.2),
     )
+
+pub returns-in-Ok-say-clause-ready : goal.returns-in-Ok-say-clause-ready
+returns-in-Ok-say-clause-ready g c = g.met.E.Editor.stays_ready c.perform.new.self (g.R.Rig.state c.perform.new.rig) (g.R.Rig.state c.say.new.self) c.in-Ok.ensures.ready c.say.ensures.files c.say.ensures.time.goes_on

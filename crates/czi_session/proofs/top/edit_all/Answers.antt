@@ -1,6 +1,7 @@
-use Rattle.std.proofs.Common.{inl, inr, ⊎_elim, refl}
+use Rattle.std.proofs.Common.{inl, inr, ⊎_elim}
 use Rattle.czi_session.specs.Text.{last_text}
 use Rattle.czi_session.proofs.Ending.{open_prefix, from_weaker, from_more, starts, unopened}
+use Rattle.czi_session.proofs.Refusing.{unopened_alone}
 use Rattle.czi_session.proofs.top.edit_all.Goals as goal
 
 pub returns-in-Err-script-clause-moments : goal.returns-in-Err-script-clause-moments
@@ -37,3 +38,12 @@ returns-in-Err-clause-moments g c = λ cs end said s h.
 pub returns-in-Err-clause-ends : goal.returns-in-Err-clause-ends
 returns-in-Err-clause-ends g c = λ cs end said s h.
     unopened g.E.Editor.model (g.R.Rig.state c.opened.new.rig) (g.S.Source.input c.args.input.now).left s cs end said h.input c.in-Err.ended (c.in-Err.ensures.opens said s h.opening).0 h.told
+
+pub returns-in-Err-script-clause-refuses : goal.returns-in-Err-script-clause-refuses
+returns-in-Err-script-clause-refuses g c = inl c.in-Ok.ensures.unrefused
+
+pub returns-in-Ok-script-clause-refuses : goal.returns-in-Ok-script-clause-refuses
+returns-in-Ok-script-clause-refuses g c = inl c.in-Ok.ensures.unrefused
+
+pub returns-in-Err-clause-refuses : goal.returns-in-Err-clause-refuses
+returns-in-Err-clause-refuses g c = inr (unopened_alone c.in-Err.ended _ _ c.in-Err.ensures.cause)

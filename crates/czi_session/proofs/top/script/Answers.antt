@@ -1,7 +1,6 @@
-use Rattle.std.proofs.Common.{refl, arith, Ok, Err}
+use Rattle.std.proofs.Common.{refl, Err}
 use Rattle.czi_rig.proofs.Runs.{joined, weaker}
 use Rattle.czi_session.specs.Text.{last_text}
-use Rattle.czi_session.proofs.Spoken.{stands_open}
 use Rattle.czi_session.proofs.Ending.{prefix_sealed, prefix_fault, stopped, fault_said, sealed, sealed_cause, text_cause}
 use Rattle.czi_session.proofs.Midway.{takes_more, most_any}
 use Rattle.czi_session.proofs.top.script.Goals as goal
