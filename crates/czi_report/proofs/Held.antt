@@ -23,7 +23,7 @@ listed (Err e) x before now is = tt
 
 -- the parts of `info`, one after another
 pub detailed : (live : Live) (x : Index) (before front tiles attdir attachments now : List ℕ) → Holds live x
-    → front ≡ before ++ (number_line (codes "length ") x.length ++ (guid_line live.header ++ directory_line (codes "directory ") (extent_of live.directory)))
+    → front ≡ before ++ (number_line (codes "length ") x.length ++ (guid_line live.header.identity ++ directory_line (codes "directory ") (extent_of live.directory)))
     → tiles ≡ front ++ items_text (codes "tiles ") tile_info_line (map tile_of x.tiles.items)
     → attdir ≡ tiles ++ directory_line (codes "attdir ") (lies_at x.attdir)
     → attachments ≡ attdir ++ items_text (codes "attachments ") attachment_line (map att_item_of x.attachments.items)

@@ -1,3 +1,5 @@
 pub mod Pieces
 pub mod Lines
 pub mod Held
+pub mod Contents
+pub mod Described

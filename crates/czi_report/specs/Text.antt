@@ -5,7 +5,8 @@ use Rattle.uuid.specs.Text.{hyphenated_text, lower}
 use Rattle.czi_format.specs.Bytes.{bytes_at, stored_order}
 use Rattle.czi_format.specs.Span.{Span}
 use Rattle.czi_format.specs.Segment.{extent}
-use Rattle.czi_format.specs.Live.{FileHeader, Tile, AttItem, MetaItem, Live}
+use Rattle.czi_format.specs.Entry.{EntryInfo, AttInfo}
+use Rattle.czi_format.specs.Live.{Tile, AttItem, MetaItem, Live}
 use Rattle.czi_format.specs.Text.{bytes_text, up_to_zero, dims_text}
 use Rattle.czi_image.specs.Holds.{extent_of}
 
@@ -20,10 +21,13 @@ span_text s = decimal s.at ++ (codes " " ++ decimal s.len)
 unfoldable pub number_line : List ℕ → ℕ → List ℕ
 number_line word n = word ++ (decimal n ++ line_feed)
 
--- one subblock in `list`, by its number
-unfoldable pub tile_line : ℕ → Tile → List ℕ
-tile_line i t = codes "tile " ++ (decimal i ++ (codes " " ++ (decimal t.segment.at ++ (codes " pixel=" ++ (signed_decimal t.entry.info.pixel
-    ++ (codes " comp=" ++ (signed_decimal t.entry.info.compression ++ (codes " dims=" ++ (dims_text t.entry.info.dims ++ line_feed)))))))))
+-- one subblock in `list`: its number, its place and its info
+unfoldable pub tile_line_of : ℕ → ℕ → EntryInfo → List ℕ
+tile_line_of i at info = codes "tile " ++ (decimal i ++ (codes " " ++ (decimal at ++ (codes " pixel=" ++ (signed_decimal info.pixel
+    ++ (codes " comp=" ++ (signed_decimal info.compression ++ (codes " dims=" ++ (dims_text info.dims ++ line_feed)))))))))
+
+abbrev pub tile_line : ℕ → Tile → List ℕ
+tile_line i t = tile_line_of i t.segment.at t.entry.info
 
 -- a line for each, numbered from i on
 abbrev pub lines : {X : Type 0} → (ℕ → X → List ℕ) → ℕ → List X → List ℕ
@@ -39,36 +43,48 @@ abbrev pub list_text : Live → List ℕ
 list_text live = items_text (codes "tiles ") tile_line live.tiles
 
 -- the FileGuid: it stands at 32 of the identity
-unfoldable pub guid_line : FileHeader → List ℕ
-guid_line header = codes "guid " ++ (hyphenated_text lower (stored_order (bytes_at header.identity 32 16)) ++ line_feed)
+unfoldable pub guid_line : List ℕ → List ℕ
+guid_line identity = codes "guid " ++ (hyphenated_text lower (stored_order (bytes_at identity 32 16)) ++ line_feed)
 
 -- where a directory lies, or none
 unfoldable pub directory_line : List ℕ → Option Span → List ℕ
 directory_line word None = word ++ (codes "none" ++ line_feed)
 directory_line word (Some s) = word ++ (span_text s ++ line_feed)
 
--- one subblock in `info`
-unfoldable pub tile_info_line : ℕ → Tile → List ℕ
-tile_info_line i t = codes "tile " ++ (decimal i ++ (codes " " ++ (span_text (extent t.segment) ++ (codes " meta=" ++ (decimal t.head.meta
-    ++ (codes " data=" ++ (decimal t.head.pixels ++ (codes " att=" ++ (decimal t.head.tail ++ line_feed)))))))))
+-- one subblock in `info`: its number, its extent, and how long its metadata, its pixels and its attachment are
+unfoldable pub tile_info_line_of : ℕ → Span → ℕ → ℕ → ℕ → List ℕ
+tile_info_line_of i s meta pixels tail = codes "tile " ++ (decimal i ++ (codes " " ++ (span_text s ++ (codes " meta=" ++ (decimal meta
+    ++ (codes " data=" ++ (decimal pixels ++ (codes " att=" ++ (decimal tail ++ line_feed)))))))))
 
--- one attachment
-unfoldable pub attachment_line : ℕ → AttItem → List ℕ
-attachment_line i a = codes "attachment " ++ (decimal i ++ (codes " " ++ (span_text (extent a.segment)
-    ++ (codes " guid=" ++ (hyphenated_text lower (stored_order a.entry.info.guid)
-    ++ (codes " type=" ++ (bytes_text (up_to_zero a.entry.info.kind)
-    ++ (codes " name=" ++ (bytes_text (up_to_zero a.entry.info.name)
-    ++ (codes " data=" ++ (decimal a.size ++ line_feed)))))))))))
+abbrev pub tile_info_line : ℕ → Tile → List ℕ
+tile_info_line i t = tile_info_line_of i (extent t.segment) t.head.meta t.head.pixels t.head.tail
 
--- the metadata
-unfoldable pub metadata_line : Option MetaItem → List ℕ
-metadata_line None = codes "metadata none" ++ line_feed
-metadata_line (Some m) = codes "metadata " ++ (span_text (extent m.segment) ++ (codes " xml=" ++ (decimal m.head.xml ++ (codes " att=" ++ (decimal m.head.tail ++ line_feed)))))
+-- one attachment: its number, its extent, its info and its length
+unfoldable pub attachment_line_of : ℕ → Span → AttInfo → ℕ → List ℕ
+attachment_line_of i s info size = codes "attachment " ++ (decimal i ++ (codes " " ++ (span_text s
+    ++ (codes " guid=" ++ (hyphenated_text lower (stored_order info.guid)
+    ++ (codes " type=" ++ (bytes_text (up_to_zero info.kind)
+    ++ (codes " name=" ++ (bytes_text (up_to_zero info.name)
+    ++ (codes " data=" ++ (decimal size ++ line_feed)))))))))))
+
+abbrev pub attachment_line : ℕ → AttItem → List ℕ
+attachment_line i a = attachment_line_of i (extent a.segment) a.entry.info a.size
+
+-- the metadata: their extent, and how long the XML and the attachment are
+unfoldable pub metadata_line_of : Span → ℕ → ℕ → List ℕ
+metadata_line_of s xml tail = codes "metadata " ++ (span_text s ++ (codes " xml=" ++ (decimal xml ++ (codes " att=" ++ (decimal tail ++ line_feed)))))
+
+unfoldable pub no_metadata_line : List ℕ
+no_metadata_line = codes "metadata none" ++ line_feed
+
+abbrev pub metadata_line : Option MetaItem → List ℕ
+metadata_line None = no_metadata_line
+metadata_line (Some m) = metadata_line_of (extent m.segment) m.head.xml m.head.tail
 
 -- `info` of an image of n bytes: its length, its GUID, where both directories lie, each subblock, each attachment, the metadata
 unfoldable pub info_text : ℕ → Live → List ℕ
 info_text n live = number_line (codes "length ") n
-    ++ (guid_line live.header
+    ++ (guid_line live.header.identity
     ++ (directory_line (codes "directory ") (extent_of live.directory)
     ++ (items_text (codes "tiles ") tile_info_line live.tiles
     ++ (directory_line (codes "attdir ") (extent_of live.attdir)

@@ -43,7 +43,7 @@ fn push_all(index: &Index, out: &mut Vec<u8>) -> Result<(), AllocError>
 #[tactic(auto, unfolding(crate::specs::Text::guid_line))]
 fn push_front(index: &Index, out: &mut Vec<u8>) -> Result<(), AllocError>
     ensures ok { OnOk result ((live : Live) → Holds live index.now → out.new.items ≡ out.old.items
-        ++ (number_line (codes "length ") index.now.length ++ (guid_line live.header ++ directory_line (codes "directory ") (extent_of live.directory)))) }
+        ++ (number_line (codes "length ") index.now.length ++ (guid_line live.header.identity ++ directory_line (codes "directory ") (extent_of live.directory)))) }
     ensures grows { Grows out.old.items out.new.items }
 {
     end_with_number(b"length ", index.length, out)?;
@@ -88,7 +88,7 @@ pub(crate) fn push_tiles(tiles: &[Tile], out: &mut Vec<u8>) -> Result<(), AllocE
 }
 
 /// Appends the line of a subblock.
-#[tactic(auto, unfolding(crate::specs::Text::tile_info_line))]
+#[tactic(auto, unfolding(crate::specs::Text::tile_info_line_of))]
 fn push_tile(number: u64, tile: &Tile, out: &mut Vec<u8>) -> Result<(), AllocError>
     ensures ok { OnOk result (out.new.items ≡ out.old.items ++ tile_info_line number (tile_of tile.now)) }
     ensures err { OnErr result (Grows out.old.items out.new.items) }
@@ -114,7 +114,7 @@ pub(crate) fn push_attachments(items: &[AttItem], out: &mut Vec<u8>) -> Result<(
 }
 
 /// Appends the line of an attachment.
-#[tactic(auto, unfolding(crate::specs::Text::attachment_line))]
+#[tactic(auto, unfolding(crate::specs::Text::attachment_line_of))]
 fn push_attachment(number: u64, item: &AttItem, out: &mut Vec<u8>) -> Result<(), AllocError>
     ensures ok { OnOk result (out.new.items ≡ out.old.items ++ attachment_line number (att_item_of item.now)) }
     ensures err { OnErr result (Grows out.old.items out.new.items) }
@@ -129,7 +129,7 @@ fn push_attachment(number: u64, item: &AttItem, out: &mut Vec<u8>) -> Result<(),
 }
 
 /// Appends the line of the metadata.
-#[tactic(auto, unfolding(crate::specs::Text::metadata_line))]
+#[tactic(auto, unfolding(crate::specs::Text::metadata_line_of, crate::specs::Text::no_metadata_line))]
 pub(crate) fn push_metadata(item: &Option<MetaItem>, out: &mut Vec<u8>) -> Result<(), AllocError>
     ensures ok { OnOk result (out.new.items ≡ out.old.items ++ metadata_line (option_map meta_item_of item.now)) }
     ensures err { OnErr result (Grows out.old.items out.new.items) }

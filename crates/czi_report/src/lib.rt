@@ -4,10 +4,12 @@
 #![tactic(auto)]
 
 mod details;
+mod laws;
 mod listing;
 #[cfg(test)]
 mod tests;
 mod text;
 
 pub use details::info;
+pub use laws::texts_of_a_state;
 pub use listing::list;

@@ -38,7 +38,7 @@ pub(crate) fn push_tiles(tiles: &[Tile], out: &mut Vec<u8>) -> Result<(), AllocE
 }
 
 /// Appends the line of a subblock.
-#[tactic(auto, unfolding(crate::specs::Text::tile_line))]
+#[tactic(auto, unfolding(crate::specs::Text::tile_line_of))]
 fn push_tile(number: u64, tile: &Tile, out: &mut Vec<u8>) -> Result<(), AllocError>
     ensures ok { OnOk result (out.new.items ≡ out.old.items ++ tile_line number (tile_of tile.now)) }
     ensures err { OnErr result (Grows out.old.items out.new.items) }
