@@ -28,7 +28,7 @@ pub fn close<R: Rig>(rig: &mut R, journal: Journal) -> Result<(), Failed>
     ensures moments { ForSome (devices (R.state rig.old)) (λ all. IsAtRest all.image → StandsForItself all
         → Throughout R.Rig rig.old rig.new (λ image journal said. Recovered image journal all.image.seen × (said ≡ all.said))) }
     ensures closed { OnOk result (ForSome (known (R.state rig.new) File.Journal) (Everywhere (λ bytes. slot_of bytes ≡ Void))) }
-    ensures synced { OnOk result (ForSome (known (R.state rig.old) File.Journal) IsAtRest → ForSome (known (R.state rig.new) File.Journal) IsAtRest) }
+    ensures synced { OnOk result ((journal.armed ≡ false → ForSome (known (R.state rig.old) File.Journal) IsAtRest) → ForSome (known (R.state rig.new) File.Journal) IsAtRest) }
     ensures idle { journal.armed ≡ false → Untouched R.Rig rig.old rig.new }
     ensures other { LeavesOther File.Journal (R.state rig.old) (R.state rig.new) }
     ensures goes_on { GoesOn (R.state rig.old) (R.state rig.new) }
