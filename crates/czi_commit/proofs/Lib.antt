@@ -1,0 +1,4 @@
+pub mod Carrying
+pub mod Arming
+pub mod Standing
+pub mod Gaps
