@@ -28,7 +28,8 @@ use Rattle.czi_machine.proofs.Removal.{removal_laid, removes}
 use Rattle.czi_vault.specs.Recovered.{StandsOr}
 use Rattle.czi_engine.specs.Commit.{Step, made_of, pieces_in, IsStep, IsPlanned, IsRemoval, removed}
 use Rattle.czi_engine.specs.Holes.{AreHigh, view_of}
-use Rattle.czi_engine.specs.Stands.{IsSettled, StandsOn, EitherSide}
+use Rattle.czi_image.specs.Holds.{IsSettled}
+use Rattle.czi_engine.specs.Stands.{StandsOn, EitherSide}
 use Rattle.czi_engine.proofs.Walked.{lies_at, many_tiles}
 use Rattle.czi_engine.proofs.Made.{made_wrote}
 use Rattle.czi_engine.proofs.Openable.{recovered_opens, view_opens}

@@ -1,8 +1,17 @@
 -- An engine that was opened stands on its rig.
-use Rattle.std.proofs.Common.{◌≡◌, ℕ, List, map, Some, refl, sym, ◌∙◌, ap, subst, arith}
+use Rattle.std.proofs.Common.{◌≡◌, ℕ, ◌≤◌, List, [], ◌∷◌, map, length, Option, Some, refl, sym, ◌∙◌, ap, subst, arith}
+use Rattle.std.specs.List.{AllByRecursion}
 use Rattle.std.specs.Option.{ForSome}
 use Rattle.std.proofs.lemmas.Option.{same_Some}
+use Rattle.czi_format.specs.Bytes.{bytes_at}
+use Rattle.czi_format.specs.Layout.{Layout, layout}
+use Rattle.czi_format.specs.Live.{Live, document}
+use Rattle.czi_format.specs.Span.{Span}
+use Rattle.czi_format.proofs.Unique.{reaches_unique}
+use Rattle.czi_format.proofs.Walks.{layout_unique}
+use Rattle.czi_machine.specs.State.{Former, State as MachineState, items_of, item_spans}
 use Rattle.czi_num.specs.Span.{span_of}
+use Rattle.czi_num.specs.declared.span.Span.{Span as CodeSpan}
 use Rattle.czi_rig.specs.declared.rig.Rig.{Ghosts}
 use Rattle.czi_rig.specs.declared.file.File.{File}
 use Rattle.czi_rig.specs.declared.file.File.TheVariants.{Image, Journal}
@@ -13,14 +22,17 @@ use Rattle.czi_rig.specs.Moments.{Devices, devices, all_of, LeavesNow, CountsNow
 use Rattle.czi_rig.proofs.Files.{left_settled}
 use Rattle.czi_rig.proofs.Known.{known_file, known_said, known_seen, leaves_now, told_before}
 use Rattle.czi_image.specs.declared.index.Index.{Index}
-use Rattle.czi_image.specs.Holds.{Indexes}
+use Rattle.czi_image.specs.Holds.{Indexes, IsSettled, LiesAs}
 use Rattle.czi_space.specs.State.{AreExtents}
 use Rattle.czi_vault.specs.Recovered.{Recovered}
 use Rattle.czi_plan.proofs.Parts.{free_extents}
 use Rattle.czi_opening.specs.declared.opening.Opened.{Opened}
 use Rattle.czi_opening.specs.Answers.{AreRecovered, IsJournal}
 use Rattle.czi_opening.specs.Course.{From, Stays, StandsForItself}
-use Rattle.czi_engine.specs.Standing.{IsItself, IsOf, StandsOnRig}
+use Rattle.czi_engine.specs.Standing.{AreWhole, HasSome, HasState, HoldBack, IsFresh, IsItself, IsOf, IsOpened, StandsOnRig}
+use Rattle.czi_engine.specs.Editing.{OpensIn}
+use Rattle.czi_engine.proofs.Keeping.{has_opens}
+use Rattle.czi_engine.proofs.Newly.{opened_stands}
 use Rattle.czi_engine.specs.declared.engine.Engine.{Engine}
 
 -- the extents of an index can be those of a map
@@ -33,7 +45,7 @@ module _ {D : Type 0} (rig : Ghosts D) where
       → GoesOn (rig.state old) (rig.state new) → (rig.state new).said ≡ (rig.state old).said
       → ForSome (seen_of (rig.state old) Image) (λ image. ForSome (seen_of (rig.state old) Journal) (λ journal. AreRecovered image journal (rig.state new)))
       → ForSome (devices (rig.state old)) (λ all. From rig old new (Stays all))
-      → ForSome (devices (rig.state new)) IsItself
+      → ForSome (devices (rig.state new)) (λ all. Recovered all.image.seen all.journal.seen all.image.seen)
   itself old new counts reads goes said recovered moments = λ now is.
       let of_image = told_before (rig.state old) (rig.state new) Image now.image goes (known_file (rig.state new) Image now is) in
       let of_journal = told_before (rig.state old) (rig.state new) Journal now.journal goes (known_file (rig.state new) Journal now is) in
@@ -53,23 +65,67 @@ module _ {D : Type 0} (rig : Ghosts D) where
       let made : r.bytes ≡ now.image.seen = ap (λ (d : Disk). d.seen) (same_Some (at_rest r.bytes) now.image (sym r.synced.image_is ∙ known_file (rig.state new) Image now is)) in
       subst (λ (b : List ℕ). Recovered now.image.seen now.journal.seen b) made (stays.0.same r.bytes r.recovered)
 
-pub begins : (s : State) (o : Opened) (x : Engine) → IsOf o x → ForSome (seen_of s Image) (λ image. Indexes image o.index) → ForSome (known s Journal) (Everywhere (IsJournal o.journal))
-    → ForSome (known s Image) IsAtRest × ForSome (known s Journal) IsAtRest → ForSome (devices s) IsItself → StandsOnRig s x
-begins s o x of shown stands synced own = record {
-  image = synced.0;
-  journal = synced.1;
-  itself = own;
-  index = λ image is. subst (λ (i : Index). Indexes image i) (sym of.index) (shown image is);
-  armed = λ disk is. subst (λ j. Everywhere (IsJournal j) disk) (sym of.journal) (stands disk is);
-  own_map = of.own_map;
-}
+own_items : (bytes : List ℕ) (spans : List Span) → AllByRecursion (λ (s : Span). bytes_at bytes s.at s.len ≡ bytes_at bytes s.at s.len) spans
+own_items bytes [] = tt
+own_items bytes (s ∷ spans) = (refl, own_items bytes spans)
+
+-- an index of the image, and no edits: the state of the image
+pub fresh_has : (bytes : List ℕ) (x : Engine) (s : MachineState) → Indexes bytes x.index → x.edits.items ≡ [] → IsFresh bytes x.number s → (live : Live) × HasState bytes bytes live s x
+fresh_has bytes x s is none f =
+    let same : f.live ≡ is.live = reaches_unique bytes f.live is.live f.reaches is.reaches in
+    let laid : s.layout ≡ layout (length bytes) is.live is.walk = layout_unique bytes s.layout (layout (length bytes) is.live is.walk) f.layout (is.live, is.walk, is.reaches, is.walks, refl) in (
+      is.live,
+      record {
+        stands = opened_stands bytes is.live s is.settled is.reaches (f.document ∙ ap (document bytes) same) f.layout f.formers;
+        holds = is.holds;
+        lies = subst (λ (l : Layout). LiesAs l x.index) (sym laid) is.lies;
+        edits = subst (λ (fs : List Former). HoldBack (items_of s.layout) fs x.edits.items) (sym f.formers) (subst (λ (es : List (Option CodeSpan)). HoldBack (items_of s.layout) [] es) (sym none) tt);
+        number = sym f.number;
+        kept = own_items bytes (item_spans (items_of s.layout));
+      },
+    )
+
+-- there is one
+some_state : (bytes : List ℕ) (x : Engine) → Indexes bytes x.index → x.edits.items ≡ [] → HasSome bytes x
+some_state bytes x is none =
+    let s : MachineState = record { document = document bytes is.live; layout = layout (length bytes) is.live is.walk; formers = []; number = x.number } in
+    let has = fresh_has bytes x s is none (record { live = is.live; reaches = is.reaches; document = refl; layout = (is.live, is.walk, is.reaches, is.walks, refl); formers = refl; number = refl }) in
+    record { start = bytes; live = has.0; state = s; has = has.1 }
 
 left_seen : (d : Disk) (left : List ℕ) → IsAtRest d → Left d.durable left → left ≡ d.seen
 left_seen d left rest l = left_settled d.seen left (subst (λ e. Left e left) (ap (λ (x : Disk). x.durable) rest) l)
 
 -- what a crash leaves of files that are on the disk
-pub stands_for_itself : (all : Devices) → IsAtRest all.image → IsAtRest all.journal → IsItself all → StandsForItself all
-stands_for_itself all image journal own = λ i j o l.
-    let of_image : i ≡ all.image.seen = left_seen all.image i image l.image_is in
-    let of_journal : j ≡ all.journal.seen = left_seen all.journal j journal l.journal_is in
+stands_for_itself : (all : Devices) → IsAtRest all.image → IsAtRest all.journal → Recovered all.image.seen all.journal.seen all.image.seen → IsItself all.image all.journal
+stands_for_itself all image journal own = λ i j li lj.
+    let of_image : i ≡ all.image.seen = left_seen all.image i image li in
+    let of_journal : j ≡ all.journal.seen = left_seen all.journal j journal lj in
     subst (λ (x : List ℕ). Recovered x j all.image.seen) (sym of_image) (subst (λ (x : List ℕ). Recovered all.image.seen x all.image.seen) (sym of_journal) own)
+
+pub indexed : (s : State) (o : Opened) (x : Engine) → IsOf o x → ForSome (seen_of s Image) (λ image. Indexes image o.index) → ForSome (seen_of s Image) (λ image. Indexes image x.index)
+indexed s o x of shown = λ image is. subst (λ (i : Index). Indexes image i) (sym of.index) (shown image is)
+
+pub begins : (s : State) (o : Opened) (x : Engine) → IsOf o x → ForSome (seen_of s Image) (λ image. Indexes image o.index) → ForSome (known s Journal) (Everywhere (IsJournal o.journal))
+    → ForSome (known s Image) IsAtRest × ForSome (known s Journal) IsAtRest → ForSome (devices s) (λ all. Recovered all.image.seen all.journal.seen all.image.seen) → StandsOnRig s x
+begins s o x of shown stands synced own = record {
+  image = synced.0;
+  itself = λ all is. stands_for_itself all (synced.0 all.image (known_file s Image all is)) (synced.1 all.journal (known_file s Journal all is)) (own all is);
+  state = λ bytes is. some_state bytes x (indexed s o x of shown bytes is) of.edits;
+  armed = λ disk is. subst (λ j. Everywhere (IsJournal j) disk) (sym of.journal) (stands disk is);
+  idle = λ off. synced.1;
+  own_map = of.own_map;
+  whole = subst AreWhole (sym of.edits) tt;
+  few = subst (λ (es : List (Option CodeSpan)). length es ≤ 32) (sym of.edits) (omega arith);
+}
+
+pub opened_fresh : (s : State) (o : Opened) (x : Engine) → IsOf o x → ForSome (seen_of s Image) (λ image. Indexes image o.index) → IsOpened s x
+opened_fresh s o x of shown = λ bytes is t f. fresh_has bytes x t (indexed s o x of shown bytes is) of.edits f
+
+-- what closing asks
+pub closes_for_itself : (all : Devices) → IsItself all.image all.journal → StandsForItself all
+closes_for_itself all own = λ i j o l. own i j l.image_is l.journal_is
+
+-- what stands for the bytes of a fresh state opens as it
+pub fresh_opens : (bytes image journal : List ℕ) (number : ℕ) (s : MachineState) → IsSettled bytes → IsFresh bytes number s → Recovered image journal bytes → OpensIn bytes image journal s
+fresh_opens bytes image journal number s settled f is =
+    has_opens bytes bytes image journal f.live s (opened_stands bytes f.live s settled f.reaches f.document f.layout f.formers) (own_items bytes (item_spans (items_of s.layout))) is

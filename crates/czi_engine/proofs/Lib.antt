@@ -1,4 +1,4 @@
-mod Ranges
+pub mod Ranges
 mod Writable
 mod Outside
 mod Openable
@@ -8,6 +8,19 @@ mod Walked
 mod Committed
 mod Returned
 mod Touching
-mod Held
+pub mod Held
 mod Reading
 pub mod Fresh
+pub mod Keeping
+pub mod Keyed
+pub mod Spacing
+pub mod Stepping
+pub mod Refusing
+pub mod Following
+pub mod Accepting
+pub mod OnRig
+pub mod Same
+pub mod Carried
+pub mod Lists
+pub mod Nexts
+pub mod RefusedBy

@@ -15,7 +15,8 @@ use Rattle.czi_machine.proofs.AnyCommand.{all_spans}
 use Rattle.czi_machine.proofs.Opened.{layout_spans}
 use Rattle.czi_vault.specs.Recovered.{Recovered, Stands}
 use Rattle.czi_engine.specs.Holes.{AreHigh, view_of}
-use Rattle.czi_engine.specs.Stands.{IsSettled, StandsOn, OpensAs}
+use Rattle.czi_image.specs.Holds.{IsSettled}
+use Rattle.czi_engine.specs.Stands.{StandsOn, OpensAs}
 use Rattle.czi_engine.proofs.Outside.{stands_outside}
 
 part : (bytes : List ℕ) (i : ℕ) → i < 4 → get_or (bytes_at bytes 100 4) i 0 ≡ get_or bytes (100 + i) 0

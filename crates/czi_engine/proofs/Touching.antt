@@ -48,7 +48,7 @@ use Rattle.czi_engine.proofs.Outside.{stands_outside}
 use Rattle.czi_engine.proofs.Ranges.{live_outside}
 
 -- a pair stands for one byte list at most
-stands_once : (r : Reading) (image a b : List ℕ) → StandsFor r image a → StandsFor r image b → a ≡ b
+pub stands_once : (r : Reading) (image a b : List ℕ) → StandsFor r image a → StandsFor r image b → a ≡ b
 stands_once Void image a b p q = p ∙ sym q
 stands_once (Holds r) image a b p q = p.is ∙ sym q.is
 stands_once (OfVersion v) image a b p q = absurd p
@@ -70,7 +70,7 @@ item_live bytes live s l i x k lies (other, walk, reaches, walks, is) got =
     omega (arith, got_covers (spans_of (item_places (items_of l))) i x k got, cover-live_places l k, ap (λ z. cover z k) rest)
 
 -- and inside the bytes
-live_inside : (bytes : List ℕ) (live : Live) (s : State) (k : ℕ) → LiesLoosely bytes live s → IsTidy s → 1 ≤ cover (map extent (reached live)) k → k < length bytes
+pub live_inside : (bytes : List ℕ) (live : Live) (s : State) (k : ℕ) → LiesLoosely bytes live s → IsTidy s → 1 ≤ cover (map extent (reached live)) k → k < length bytes
 live_inside bytes live s k lies is there = elim (cases_lt k (length bytes)) [
   | inl h ↦ h
   | inr h ↦ absurd (omega (arith, is.inside k (omega (arith, h, lies.length)), ap (λ z. cover z k) (all_spans s.layout live lies.extents), there))
@@ -89,7 +89,7 @@ same_span_bytes a b x each = elim (cases_lt 0 x.len) [
 -- What stays live isn't written.
 module _ (bytes other : List ℕ) (live : Live) (s s' : State) (t : Turn) (pieces : List Piece) (lies : LiesLoosely bytes live s) (is : IsTidy s) (leads : Leads s s') (at : SpansAt s'.layout (turned t live))
     (inside : WritesIn t (marked s.layout s'.layout) pieces) (wrote : Wrote bytes other pieces) (apart : BringsApart live t) where
-  stays_same : (k : ℕ) → 1 ≤ cover (map extent (reached live)) k → 1 ≤ cover (map extent (reached (turned t live))) k → k < length other → get_or other k 0 ≡ get_or bytes k 0
+  pub stays_same : (k : ℕ) → 1 ≤ cover (map extent (reached live)) k → 1 ≤ cover (map extent (reached (turned t live))) k → k < length other → get_or other k 0 ≡ get_or bytes k 0
   stays_same k before after small =
       let H : Segment = live.header.segment in
       let front : HeaderAt bytes H = header_at_front bytes live lies.reaches in
@@ -185,7 +185,7 @@ directory_apart : (bytes : List ℕ) (live : Live) (s : State) (subblocks : List
 directory_apart bytes live s subblocks es d padding pieces k lies is plan some =
     fits_apart bytes live s (32 + d.segment.allocated) d.segment.at k lies is (omega (arith, plan.need)) (omega arith) (ap (place_for (space_of s)) plan.need ∙ plan.place) (omega (arith, some))
 
-removal_apart : (bytes : List ℕ) (live : Live) (s : State) (dims : List Dim) (i : ℕ) (d : Directory) (c : Step) → LiesLoosely bytes live s → IsTidy s → IsRemoval live s dims i d c → BringsApart live (with_directory d (out i))
+pub removal_apart : (bytes : List ℕ) (live : Live) (s : State) (dims : List Dim) (i : ℕ) (d : Directory) (c : Step) → LiesLoosely bytes live s → IsTidy s → IsRemoval live s dims i d c → BringsApart live (with_directory d (out i))
 removal_apart bytes live s dims i d c lies is plan k some = directory_apart bytes live s _ _ d plan.padding (pieces_in c) k lies is plan.plans.directory (omega (arith, new_directory d i k, some))
 
 -- a new directory, and the subblock that goes back

@@ -1,13 +1,14 @@
 -- The laws of what an image and a journal open as, as statements.
 use Rattle.std.specs.List.{AllByRecursion}
 use Rattle.std.specs.Prelude.{◌≡◌, ◌+◌, ◌-◌, ◌⊎◌, ℕ, pos, List, [], ◌++◌, length, slice_index, Ok}
-use Rattle.czi_format.specs.Bytes.{IsBytes, bytes_at}
+use Rattle.czi_format.specs.Bytes.{bytes_at}
 use Rattle.czi_format.specs.Entry.{Dim}
 use Rattle.czi_format.specs.Layout.{Place, Layout, HasLayout}
-use Rattle.czi_format.specs.Live.{Live, Directory, Tile, document, update_pending}
+use Rattle.czi_format.specs.Live.{Live, Directory, Tile, document}
 use Rattle.czi_format.specs.Shows.{Reaches}
 use Rattle.czi_format.specs.Space.{place_for}
 use Rattle.czi_format.specs.Span.{Span}
+use Rattle.czi_image.specs.Holds.{IsSettled}
 use Rattle.czi_links.specs.Record.{Bytes}
 use Rattle.czi_machine.specs.Change.{into, out}
 use Rattle.czi_machine.specs.Edit.{remove}
@@ -69,8 +70,7 @@ AloneShows = (start bytes image : List ℕ) (live : Live) (s : State) (high : Ar
 
 -- what is opened stands on the state of its layout, without formers
 abbrev pub OpenedStands : Type 0
-OpenedStands = (bytes : List ℕ) (live : Live) (s : State) → IsBytes bytes → Reaches bytes live → s.document ≡ document bytes live → HasLayout bytes s.layout → s.formers ≡ [] → update_pending bytes ≡ pos 0
-    → StandsOn bytes bytes live s
+OpenedStands = (bytes : List ℕ) (live : Live) (s : State) → IsSettled bytes → Reaches bytes live → s.document ≡ document bytes live → HasLayout bytes s.layout → s.formers ≡ [] → StandsOn bytes bytes live s
 
 -- the bytes of a commit are those of its pieces, and elsewhere what was there
 abbrev pub MadeWrote : Type 0

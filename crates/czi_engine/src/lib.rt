@@ -4,11 +4,18 @@
 
 ghost use Rattle.czi_engine.specs.Laws.{DocumentOpens, ItselfRests, RestsStands, HeldStays, AloneShows, WrittenHasBytes, CommitLeaves100, RemovalLeaves100, HolesAreHigh, StandsOutside, RecoveredOpens, ViewOpens, OpenedStands, MadeWrote, CommitStands, CommitOpens, RemovalStands, RemovalOpens, FreeInView, ZerosInView, PlaceInView, ReturnStands, ReturnOpens, CommitTouches, RemovalTouches, ReturnTouches};
 
+ghost use Rattle.czi_engine.specs.Removing.{RemovalIsStep, RefusalsAgree, RemovalHas};
+
+mod carrying;
 mod engine;
+mod error;
+mod next;
 mod opening;
+mod removing;
 
 pub use czi_opening::{ImageRefusal, OpenError};
 pub use engine::Engine;
+pub use error::EditError;
 
 #[cfg(test)]
 mod tests;
@@ -77,4 +84,13 @@ pub fn images_alone()
     ensures written { WrittenHasBytes }
     ensures commit { CommitLeaves100 }
     ensures removal { RemovalLeaves100 }
+{}
+
+/// The plan of a removal, as an engine uses it, is a step of the machine; what refuses the one refuses
+/// the other; and the engine that has the index, the edits and the number afterwards has the state to
+/// which the removal leads.
+pub fn removals_step()
+    ensures step { RemovalIsStep }
+    ensures refused { RefusalsAgree }
+    ensures has { RemovalHas }
 {}

@@ -14,7 +14,7 @@ ghost use Rattle.czi_rig.specs.Moments.{devices, Throughout};
 ghost use Rattle.czi_rig.specs.Quiet.{Untouched};
 ghost use Rattle.czi_space.specs.State.{Has};
 ghost use Rattle.czi_vault.specs.Recovered.{Recovered};
-ghost use Rattle.czi_engine.specs.Standing.{IsOf, StandsOnRig};
+ghost use Rattle.czi_engine.specs.Standing.{IsOf, IsOpened, StandsOnRig};
 
 use crate::engine::Engine;
 use czi_image::Index;
@@ -50,6 +50,7 @@ impl Engine {
         ensures recovered { OnOk result (ForSome (seen_of (R.state rig.old) File.Image) (λ image. ForSome (seen_of (R.state rig.old) File.Journal) (λ journal.
             AreRecovered image journal (R.state rig.new)))) }
         ensures stands { IfOk result (StandsOnRig (R.state rig.new)) }
+        ensures fresh { IfOk result (IsOpened (R.state rig.new)) }
         ensures up { IfOk result (λ e. e.down ≡ false) }
         ensures no_edits { IfOk result (λ e. (e.edits.items ≡ []) × (e.number ≡ 0)) }
         // A refusal tells its cause; there is one exactly where the files don't open.
@@ -100,6 +101,7 @@ impl Engine {
         ensures recovered { OnOk result (ForSome (seen_of (R.state rig.old) File.Image) (λ image. ForSome (seen_of (R.state rig.old) File.Journal) (λ journal.
             AreRecovered image journal (R.state rig.new)))) }
         ensures stands { OnOk result (StandsOnRig (R.state rig.new) self.new) }
+        ensures fresh { OnOk result (IsOpened (R.state rig.new) self.new) }
         ensures up { OnOk result (self.new.down ≡ false) }
         ensures down { OnErr result (self.new.down ≡ true) }
         ensures no_edits { OnOk result (self.new.edits.items ≡ []) }

@@ -1,4 +1,5 @@
-use crate::{Engine, ImageRefusal, OpenError};
+use crate::{EditError, Engine, ImageRefusal, OpenError};
+use czi_doc::read_dims;
 use czi_num::{Span, write_bytes};
 use czi_rig::{File, MemRig};
 use std::alloc::{AllocError, Global};
@@ -144,5 +145,53 @@ fn an_engine_is_down_until_it_is_opened_again(rt: HostRuntime) -> Result<(), Fai
     assert!(rt; engine.down());
     assert_eq!(rt; engine.reopen(alloc, &mut rig), Ok(()));
     assert!(rt; !engine.down());
+    Ok(())
+}
+
+// What an image of 1280 bytes has besides: a subblock of 320 bytes at 704, and the directory at 1024, which names it.
+const SUBBLOCK: [Part; 14] = [
+    (24, &[0, 2]),
+    (84, &[0, 4]),
+    (704, b"ZISRAWSUBBLOCK"),
+    (720, &[0x20, 1]),
+    (728, &[8, 1]),
+    (744, &[8]),
+    (780, &[3]),
+    (1024, b"ZISRAWDIRECTORY"),
+    (1040, &[224]),
+    (1048, &[220]),
+    (1056, &[1]),
+    (1184, b"DV"),
+    (1190, &[0xC0, 2]),
+    (
+        1212,
+        b"\x03\0\0\0C\0\0\0\0\0\0\0\x01\0\0\0\0\0\0\0\0\0\0\0X\0\0\0\0\0\0\0\x04\0\0\0\0\0\0\0\0\0\0\0Y\0\0\0\0\0\0\0\x02",
+    ),
+];
+
+#[test]
+fn a_removal_holds_the_subblock_back(rt: HostRuntime) -> Result<(), Fail> {
+    let alloc = rt.alloc();
+    let image = file(alloc, 1280, &IMAGE, &SUBBLOCK)?;
+    let mut rig = MemRig::new(alloc, &image, b"")?;
+    let Ok(mut engine) = Engine::open(alloc, &mut rig) else {
+        return Err(Fail::new("not opened"));
+    };
+    assert_eq!(rt; engine.entries().len(), 1);
+    let dims = read_dims(alloc, b"C0,X0:4,Y0:2").ok().ok_or("no dims")?;
+    let Ok(number) = engine.remove(alloc, &mut rig, &dims) else {
+        return Err(Fail::new("not removed"));
+    };
+    assert_eq!(rt; number, 1);
+    let calls = rig.calls();
+    let again = engine.remove(alloc, &mut rig, &dims);
+    assert_eq!(rt; again, Err(EditError::NoKey));
+    assert_eq!(rt; rig.calls(), calls);
+    assert!(rt; engine.entries().is_empty() && !engine.down());
+    assert_eq!(rt; (engine.length(), engine.number()), (1280, 1));
+    let free = [Span { at: 1024, len: 256 }];
+    assert_eq!(rt; engine.map().runs()?.as_slice(), free.as_slice());
+    let held = [Span { at: 704, len: 320 }];
+    assert_eq!(rt; engine.map().held(), held.as_slice());
     Ok(())
 }
