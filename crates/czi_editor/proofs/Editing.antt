@@ -1,0 +1,96 @@
+-- An edit, as a session takes it.
+use Rattle.std.proofs.Common.{◌≡◌, ℕ, List, Option, None, Some, IfSome, Result, Ok, Err, OnOk, refl, sym, ap, ◌∙◌, subst}
+use Rattle.std.specs.Prelude.{IsFalse}
+use Rattle.std.proofs.lemmas.Option.{none-some, same_Some}
+use Rattle.czi_format.specs.Entry.{Dim}
+use Rattle.czi_machine.specs.Edit.{Refusal, remove}
+use Rattle.czi_machine.specs.Machine.{after_edit}
+use Rattle.czi_machine.specs.State.{State as MachineState}
+use Rattle.czi_rig.specs.declared.file.File.TheVariants.{Image, Journal}
+use Rattle.czi_rig.specs.State.{State, SameAll, SameFiles}
+use Rattle.czi_rig.specs.Passes.{GoesOn}
+use Rattle.czi_rig.specs.Moments.{Devices, devices, all_of}
+use Rattle.czi_rig.proofs.Known.{known_file, known_said, known_seen, same_known, told_after}
+use Rattle.czi_script.specs.Script.{Remove}
+use Rattle.czi_session.specs.Course.{EitherSide, Stands}
+use Rattle.czi_engine.specs.Editing.{Accepts, DuringEdit, SameEngine, is_device, or_before, refusal_of, state_after}
+use Rattle.czi_engine.specs.declared.error.EditError.{EditError}
+use Rattle.czi_engine.specs.declared.error.EditError.TheVariants.{NoKey, Full, Memory, ImageDevice, JournalDevice}
+use Rattle.czi_engine.specs.Standing.{HasState, StandsOnRig}
+use Rattle.czi_engine.specs.declared.engine.Engine.{Engine}
+use Rattle.czi_engine.proofs.Same.{same_has, same_stands}
+use Rattle.czi_editor.specs.Laws.{stays_ready_of}
+use Rattle.czi_editor.specs.Machine.{AtState, Begun, IsReady, the_machine}
+use Rattle.czi_editor.specs.Replies.{edit_reply, no_line, ok_line}
+
+pub sides : (b : Begun) (dims : List Dim) (before start : List ℕ) → before ≡ start → (image journal said : List ℕ) → DuringEdit b.start b.state (remove dims) before image journal said → EitherSide the_machine b (Remove dims) start image journal said
+sides b dims before start same image journal said d = (d.0, d.1 ∙ same)
+
+-- the state after an edit
+pub state_is : (s t : MachineState) (dims : List Dim) → after_edit s (remove dims) ≡ Ok t → state_after s (remove dims) ≡ t
+state_is s t dims goes = ap (or_before s) goes
+
+pub state_stays : (s : MachineState) (dims : List Dim) (r : Refusal) → after_edit s (remove dims) ≡ Err r → state_after s (remove dims) ≡ s
+state_stays s dims r refused = ap (or_before s) refused
+
+module _ (x y : Engine) (old new : State) (said : List ℕ) (b : Begun) (dims : List Dim) (h : Stands the_machine (AtState x) old said b) where
+  pub accepted_stands : (n : ℕ) → Accepts (remove dims) b.start b.state new y n → StandsOnRig new y → GoesOn old new → new.said ≡ old.said
+      → Stands the_machine (AtState y) new said (record { start = b.start; state = state_after b.state (remove dims) })
+  accepted_stands n a on goes same =
+      let image = told_after old new Image h.now.image goes (known_file old Image h.now h.known) in
+      let journal = told_after old new Journal h.now.journal goes (known_file old Journal h.now h.known) in
+      let now : Devices = record { image = image.0; journal = journal.0; said = h.now.said } in
+      let is : devices new ≡ Some now = λ k. all_of (image.1 k) (journal.1 k) ((same ∙ known_said old h.now h.known) k) in
+      record {
+        now = now;
+        known = is;
+        said_is = h.said_is;
+        stands = record {
+          rest = on.image image.0 image.1;
+          itself = on.itself now is;
+          live = a.live;
+          has = subst (λ (s : MachineState). HasState b.start image.0.seen a.live s y) (sym (state_is b.state a.state dims a.goes)) (a.has image.0.seen (known_seen new Image now is));
+        };
+      }
+
+  -- nothing changed
+  pub kept_stands : SameEngine x y → SameAll old new → Stands the_machine (AtState y) new said b
+  kept_stands engine same = record {
+    now = h.now;
+    known = same_known old new h.now h.known same;
+    said_is = h.said_is;
+    stands = record { rest = h.stands.rest; itself = h.stands.itself; live = h.stands.live; has = same_has x y engine b.start h.now.image.seen h.stands.live b.state h.stands.has };
+  }
+
+  pub refused_stands : (r : Refusal) → after_edit b.state (remove dims) ≡ Err r → SameEngine x y → SameAll old new → Stands the_machine (AtState y) new said (record { start = b.start; state = state_after b.state (remove dims) })
+  refused_stands r refused engine same = subst (λ (s : MachineState). Stands the_machine (AtState y) new said (record { start = b.start; state = s })) (sym (state_stays b.state dims r refused)) (kept_stands engine same)
+
+-- the reply to an edit
+pub ok_is : (s t : MachineState) (dims : List Dim) (n : ℕ) → after_edit s (remove dims) ≡ Ok t → n ≡ t.number → ok_line n ≡ edit_reply (after_edit s (remove dims))
+ok_is s t dims n goes number = ap ok_line number ∙ ap edit_reply (sym goes)
+
+pub no_is : (s : MachineState) (dims : List Dim) (r : Refusal) → after_edit s (remove dims) ≡ Err r → no_line r ≡ edit_reply (after_edit s (remove dims))
+no_is s dims r refused = ap edit_reply (sym refused)
+
+-- a property of what is there
+pub if_some : {A : Type 0} (o : Option A) (x : A) (P : A → Type 0) → o ≡ Some x → IfSome o P → P x
+if_some None x P is all = absurd (none-some x is)
+if_some (Some a) x P is all = subst P (same_Some a x is) all
+
+-- a refusal isn't a fault of a device
+pub no_device : (error : EditError) (r : Refusal) → refusal_of error ≡ Some r → IsFalse (is_device error)
+no_device NoKey r is = refl
+no_device (Full need length) r is = refl
+no_device Memory r is = refl
+no_device ImageDevice r is = absurd (none-some r is)
+no_device JournalDevice r is = absurd (none-some r is)
+
+-- an engine whose edit was refused may be used
+pub refused_ready : (x y : Engine) (old new : State) → IsReady x old → SameEngine x y → SameFiles old new → GoesOn old new → IsReady y new
+refused_ready x y old new ready same files goes =
+    let on = stays_ready_of x old new ready files goes in
+    record { stands = same_stands x y same new on.stands; up = same.down ∙ on.up }
+
+pub both_ok : {T E : Type 0} {P Q S : Type 0} (r : Result T E) → (P → Q → S) → OnOk r P → OnOk r Q → OnOk r S
+both_ok (Ok t) f p q = f p q
+both_ok (Err e) f p q = tt

@@ -1,0 +1,117 @@
+-- Opening an engine, as a session takes it.
+use Rattle.std.proofs.Common.{◌≡◌, ◌⊎◌, ℕ, List, Some, Err, refl, sym, ap, ◌∙◌, subst, inl, inr, ⊎_elim}
+use Rattle.std.specs.Option.{ForSome}
+use Rattle.std.specs.Prelude.{option_map}
+use Rattle.czi_image.specs.Holds.{IsSettled}
+use Rattle.czi_image.proofs.Settled.{whole_settled}
+use Rattle.czi_opening.specs.Answers.{AreRecovered, IsCaused, Leaves, Tells as TellsOf, cause_of}
+use Rattle.czi_opening.specs.Course.{OpensFrom, Stays}
+use Rattle.czi_opening.specs.Course as opening
+use Rattle.czi_opening.specs.Opens.{Cause, IsRefusedBy, Opens}
+use Rattle.czi_opening.specs.declared.error.OpenError.{OpenError}
+use Rattle.czi_opening.specs.declared.error.OpenError.TheVariants.{JournalVersion, BadJournal, ImageShort, ForeignJournal, Refused as RefusedOf, ImageDevice, JournalDevice, Memory as MemoryOf}
+use Rattle.czi_opening.proofs.Verdict.{not_both}
+use Rattle.czi_rig.specs.declared.rig.Rig.{Ghosts}
+use Rattle.czi_rig.specs.declared.file.File.TheVariants.{Image, Journal}
+use Rattle.czi_rig.specs.Disk.{Disk, at_rest}
+use Rattle.czi_rig.specs.State.{State, known, seen_of}
+use Rattle.czi_rig.specs.Moments.{Devices, devices, all_of}
+use Rattle.czi_rig.proofs.Known.{known_said, known_seen}
+use Rattle.czi_rig.proofs.Runs.{weaker}
+use Rattle.czi_session.specs.Causes.{OpenStops}
+use Rattle.czi_session.specs.Course.{From, IsUnrefused, Nothing, Open, Opening, Stands}
+use Rattle.czi_session.specs.Ends.{OpensSo, Refuses}
+use Rattle.czi_session.specs.declared.stop.EditorStop.TheVariants.{Image as ImageStops, Journal as JournalStops, Memory as MemoryStops}
+use Rattle.czi_session.specs.declared.stop.OpenStop.{OpenStop}
+use Rattle.czi_session.specs.declared.stop.OpenStop.TheVariants.{Refused, Stopped}
+use Rattle.czi_engine.specs.Standing.{IsFresh, IsOpened, StandsOnRig}
+use Rattle.czi_engine.specs.declared.engine.Engine.{Engine}
+use Rattle.czi_engine.proofs.Fresh.{fresh_opens}
+use Rattle.czi_engine.proofs.Keeping.{has_opens, one_recovered}
+use Rattle.czi_editor.specs.Answers.{Tells}
+use Rattle.czi_editor.proofs.Editing.{if_some}
+use Rattle.czi_editor.specs.Machine.{AtState, Begins, Begun, the_machine}
+
+settled_of : (image journal : List ℕ) (b : Begun) → Begins image journal b → IsSettled b.start
+settled_of image journal b is = whole_settled b.start is.numbers is.whole
+
+-- what stands for the bytes at the start opens to the state at the start
+stays_open : (all : Devices) (b : Begun) (said : List ℕ) → Begins all.image.seen all.journal.seen b → all.said ≡ said → (image journal o : List ℕ) → Stays all image journal o → Open the_machine b said image journal o
+stays_open all b said is same image journal o stays = (
+  fresh_opens b.start image journal 0 b.state (settled_of all.image.seen all.journal.seen b is) is.fresh (stays.0.same b.start is.recovered),
+  stays.1 ∙ same,
+)
+
+module _ {D : Type 0} (rig : Ghosts D) (old new : D) (said : List ℕ) (b : Begun) (h : Opening the_machine (rig.state old) said b) where
+  from_open : opening.From rig old new (Stays h.now) → From rig old new (Open the_machine b said)
+  from_open from = record {
+    then = from.then;
+    before = from.before;
+    after = weaker rig (stays_open h.now b said h.begins h.said_is) from.after;
+    always = λ i j o left. stays_open h.now b said h.begins h.said_is i j o (from.always i j o left);
+  }
+
+  pub opens_from : ForSome (devices (rig.state old)) (λ all. opening.From rig old new (Stays all)) → From rig old new (Open the_machine b said)
+  opens_from moments = from_open (moments h.now h.known)
+
+  either : (error : OpenError) → OpensFrom rig old new (Stays h.now) (Err error) → Nothing rig old new ⊎ From rig old new (Open the_machine b said)
+  either (JournalVersion version) from = inr (from_open from)
+  either (BadJournal place) from = inr (from_open from)
+  either (ImageShort have need) from = inr (from_open from)
+  either (ForeignJournal journal image) from = inr (from_open from)
+  either (RefusedOf refusal) from = inr (from_open from)
+  either ImageDevice from = ⊎_elim (λ none. inl none) (λ some. inr (from_open some)) from
+  either JournalDevice from = ⊎_elim (λ none. inl none) (λ some. inr (from_open some)) from
+  either MemoryOf from = inr (from_open from)
+
+  pub meanwhile : (error : OpenError) → ForSome (devices (rig.state old)) (λ all. OpensFrom rig old new (Stays all) (Err error)) → Nothing rig old new ⊎ From rig old new (Open the_machine b said)
+  meanwhile error moments = either error (moments h.now h.known)
+
+-- files that open aren't refused
+opened : (image journal : List ℕ) (b : Begun) → Begins image journal b → Opens image journal b.state.document
+opened image journal b is = record { bytes = b.start; recovered = is.recovered; shows = (is.fresh.live, is.fresh.reaches, is.fresh.document); idle = is.whole }
+
+pub opens_so : (error : OpenError) (stop : OpenStop) (state : State) (image journal : List ℕ) (b : Begun) → Tells error stop → TellsOf image journal state error → Begins image journal b → OpensSo stop
+opens_so error (Refused text) state image journal b tells cause is =
+    not_both image journal b.state.document tells.0 (opened image journal b is) (if_some (cause_of error) tells.0 (λ (c : Cause). IsRefusedBy image journal c × Leaves image journal state c) tells.1 cause).0
+opens_so error (Stopped stop) state image journal b tells cause is = tt
+
+-- a refusal is that of the pair
+pub refuses : (error : OpenError) (stop : OpenStop) (state : State) (image journal : List ℕ) → Tells error stop → TellsOf image journal state error → Refuses the_machine image journal stop
+refuses error (Refused text) state image journal tells cause = record { cause = tells.0; refused = (if_some (cause_of error) tells.0 (λ (c : Cause). IsRefusedBy image journal c × Leaves image journal state c) tells.1 cause).0; text_is = tells.2 }
+refuses error (Stopped stop) state image journal tells cause = tt
+
+-- a device fails only where its count rose
+pub open_stops : (error : OpenError) (stop : OpenStop) (old new : State) → Tells error stop → IsCaused old new error → OpenStops stop old new
+open_stops error (Refused text) old new tells caused = tt
+open_stops error (Stopped ImageStops) old new tells caused = subst (IsCaused old new) tells caused
+open_stops error (Stopped JournalStops) old new tells caused = subst (IsCaused old new) tells caused
+open_stops error (Stopped MemoryStops) old new tells caused = tt
+
+-- the engine stands at the state at the start
+pub opened_stands : (x : Engine) (old new : State) (said : List ℕ) (b : Begun) → Opening the_machine old said b
+    → ForSome (seen_of old Image) (λ image. ForSome (seen_of old Journal) (λ journal. AreRecovered image journal new)) → IsOpened new x → x.number ≡ 0 → StandsOnRig new x → new.said ≡ old.said
+    → Stands the_machine (AtState x) new said b
+opened_stands x old new said b h recovered fresh none on same =
+    let r = recovered h.now.image.seen (known_seen old Image h.now h.known) h.now.journal.seen (known_seen old Journal h.now h.known) in
+    let bytes : r.bytes ≡ b.start = one_recovered h.now.image.seen h.now.journal.seen r.bytes b.start r.recovered h.begins.recovered in
+    let image : known new Image ≡ Some (at_rest b.start) = r.synced.image_is ∙ ap (λ (z : List ℕ). Some (at_rest z)) bytes in
+    let now : Devices = record { image = at_rest b.start; journal = at_rest h.now.journal.seen; said = h.now.said } in
+    let is : devices new ≡ Some now = λ k. all_of (image k) (r.synced.journal_is k) ((same ∙ known_said old h.now h.known) k) in
+    let has = fresh b.start (known_seen new Image now is) b.state (subst (λ (n : ℕ). IsFresh b.start n b.state) (sym none) h.begins.fresh) in
+    record {
+      now = now;
+      known = is;
+      said_is = h.said_is;
+      stands = record { rest = refl; itself = on.itself now is; live = has.0; has = has.1 };
+    }
+
+-- what was opened isn't refused
+pub unrefused : (x : Engine) (old new : State) → ForSome (seen_of old Image) (λ image. ForSome (seen_of old Journal) (λ journal. AreRecovered image journal new)) → StandsOnRig new x → IsUnrefused the_machine old
+unrefused x old new recovered on all text is refused =
+    let image = all.image.seen in
+    let journal = all.journal.seen in
+    let r = recovered image (known_seen old Image all is) journal (known_seen old Journal all is) in
+    let some = on.state r.bytes (ap (option_map (λ (d : Disk). d.seen)) r.synced.image_is) in
+    let o = (has_opens some.start r.bytes image journal some.live some.state some.has.stands some.has.kept r.recovered).opens in
+    not_both image journal some.state.document refused.cause (record { bytes = o.bytes; recovered = o.recovered; shows = o.shows; idle = o.whole }) refused.refused

@@ -1,0 +1,36 @@
+use Rattle.czi_rig.specs.declared.file.File.TheVariants.{Image, Journal}
+use Rattle.czi_rig.proofs.Known.{known_seen}
+use Rattle.czi_editor.proofs.Opening.{meanwhile, opened_stands, opens_from, opens_so, refuses, unrefused}
+use Rattle.czi_editor.proofs.editor.ImageEditorEditor.open.Goals as goal
+
+pub returns-in-Ok-clause-opens : goal.returns-in-Ok-clause-opens
+returns-in-Ok-clause-opens g c said b h =
+    let old = g.R.Rig.state c.args.rig.now in
+    let new = g.R.Rig.state c.open.new.rig in
+    let o = c.in-Ok.ensures in
+    (
+      opens_from g.R.Rig c.args.rig.now c.open.new.rig said b h o.moments,
+      opened_stands c.in-Ok.engine old new said b h o.recovered o.fresh o.no_edits.1 o.stands o.said,
+    )
+
+pub returns-in-Ok-clause-unrefused : goal.returns-in-Ok-clause-unrefused
+returns-in-Ok-clause-unrefused g c = unrefused c.in-Ok.engine (g.R.Rig.state c.args.rig.now) (g.R.Rig.state c.open.new.rig) c.in-Ok.ensures.recovered c.in-Ok.ensures.stands
+
+pub returns-in-Err-clause-opens : goal.returns-in-Err-clause-opens
+returns-in-Err-clause-opens g c said b h =
+    let old = g.R.Rig.state c.args.rig.now in
+    let new = g.R.Rig.state c.open.new.rig in
+    let image = h.now.image.seen in
+    let journal = h.now.journal.seen in
+    let told = c.in-Err.ensures.refused image (known_seen old Image h.now h.known) journal (known_seen old Journal h.now h.known) in
+    (
+      opens_so c.in-Err.error c.stop_of.result new image journal b c.stop_of.ensures told h.begins,
+      meanwhile g.R.Rig c.args.rig.now c.open.new.rig said b h c.in-Err.error c.in-Err.ensures.meanwhile,
+    )
+
+pub returns-in-Err-clause-refused : goal.returns-in-Err-clause-refused
+returns-in-Err-clause-refused g c all is =
+    let old = g.R.Rig.state c.args.rig.now in
+    let image = all.image.seen in
+    let journal = all.journal.seen in
+    refuses c.in-Err.error c.stop_of.result (g.R.Rig.state c.open.new.rig) image journal c.stop_of.ensures (c.in-Err.ensures.refused image (known_seen old Image all is) journal (known_seen old Journal all is))

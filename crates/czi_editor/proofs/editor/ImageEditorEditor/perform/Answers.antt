@@ -1,0 +1,27 @@
+use Rattle.std.proofs.Common.{◌++◌, ℕ, List, ap, ◌∙◌}
+use Rattle.std.proofs.lemmas.Result.{on_ok_weaker}
+use Rattle.czi_report.specs.Text.{info_text}
+use Rattle.czi_report.proofs.Described.{details_state, lists_state}
+use Rattle.czi_editor.proofs.Editing.{both_ok}
+use Rattle.czi_editor.proofs.editor.ImageEditorEditor.perform.Goals as goal
+
+pub returns-in-Remove-clause-moments : goal.returns-in-Remove-clause-moments
+returns-in-Remove-clause-moments g c = rw c.in-Remove.is c.remove.ensures.moments
+
+pub returns-in-Remove-clause-ok : goal.returns-in-Remove-clause-ok
+returns-in-Remove-clause-ok g c = rw c.in-Remove.is (both_ok c.remove.result (λ replied stands said b h. (replied said b h, stands said b h)) c.remove.ensures.replied c.remove.ensures.stands)
+
+pub returns-in-List-clause-ok : goal.returns-in-List-clause-ok
+returns-in-List-clause-ok g c = rw c.in-List.is (on_ok_weaker c.push_list.result (λ says said b h. (
+    says h.stands.live h.stands.has.holds ∙ ap (λ (z : List ℕ). c.args.reply.now.items ++ z) (lists_state h.now.image.seen h.stands.live b.state h.stands.has.stands.lies),
+    h,
+  )) c.push_list.ensures.said)
+
+pub returns-in-Info-clause-ok : goal.returns-in-Info-clause-ok
+returns-in-Info-clause-ok g c = rw c.in-Info.is (on_ok_weaker c.push_info.result (λ says said b h.
+    let lies = h.stands.has.stands.lies in
+    (
+      says h.stands.live h.stands.has.holds ∙ (ap (λ (n : ℕ). c.args.reply.now.items ++ info_text n h.stands.live) (h.stands.has.lies.length ∙ lies.length)
+        ∙ ap (λ (z : List ℕ). c.args.reply.now.items ++ z) (details_state h.now.image.seen h.stands.live b.state lies)),
+      h,
+    )) c.push_info.ensures.said)

@@ -1,0 +1,47 @@
+use Rattle.std.proofs.Common.{◌≡◌, ◌++◌, ℕ, List, Err, ap, ◌∙◌}
+use Rattle.std.proofs.lemmas.Result.{on_ok_weaker}
+use Rattle.czi_doc.specs.View.{dims_of}
+use Rattle.czi_machine.specs.Edit.{Refusal, remove}
+use Rattle.czi_machine.specs.Machine.{after_edit}
+use Rattle.czi_rig.specs.declared.file.File.TheVariants.{Image}
+use Rattle.czi_rig.proofs.Known.{known_seen}
+use Rattle.czi_engine.specs.Editing.{refusal_of}
+use Rattle.czi_editor.specs.Replies.{no_line, ok_line}
+use Rattle.czi_editor.proofs.Editing.{accepted_stands, if_some, no_device, no_is, ok_is, refused_ready, refused_stands}
+use Rattle.czi_editor.proofs.editor.remove.Goals as goal
+
+pub returns-in-Ok-push_ok-clause-replied : goal.returns-in-Ok-push_ok-clause-replied
+returns-in-Ok-push_ok-clause-replied g c said b h =
+    let dims = dims_of c.args.dims.now in
+    let n = c.in-Ok-remove.number in
+    let a = c.in-Ok-remove.ensures.accepted h.now.image.seen (known_seen (g.R.Rig.state c.args.rig.now) Image h.now h.known) b.start h.stands.live b.state h.stands.has in
+    c.in-Ok-push_ok.ensures ∙ (ap (λ (z : List ℕ). z ++ ok_line n) c.in-Ok.ensures.items ∙ ap (λ (z : List ℕ). c.args.reply.now.items ++ z) (ok_is b.state a.state dims n a.goes a.numbered))
+
+pub returns-in-Ok-push_ok-clause-stands : goal.returns-in-Ok-push_ok-clause-stands
+returns-in-Ok-push_ok-clause-stands g c said b h =
+    let old = g.R.Rig.state c.args.rig.now in
+    let a = c.in-Ok-remove.ensures.accepted h.now.image.seen (known_seen old Image h.now h.known) b.start h.stands.live b.state h.stands.has in
+    accepted_stands c.args.engine.now c.remove.new.self old (g.R.Rig.state c.remove.new.rig) said b (dims_of c.args.dims.now) h c.in-Ok-remove.number a
+    c.in-Ok-remove.ensures.stands c.in-Ok-remove.ensures.goes_on c.in-Ok-remove.ensures.said
+
+pub returns-in-Err-clause-replied : goal.returns-in-Err-clause-replied
+returns-in-Err-clause-replied g c = on_ok_weaker c.push_no.result (λ r said b h.
+    let dims = dims_of c.args.dims.now in
+    let refused = if_some (refusal_of c.in-Err.error) r.0 (λ (x : Refusal). after_edit b.state (remove dims) ≡ Err x) r.1
+      (c.in-Err.ensures.refused h.now.image.seen (known_seen (g.R.Rig.state c.args.rig.now) Image h.now h.known) b.start h.stands.live b.state h.stands.has) in
+    r.2 ∙ (ap (λ (z : List ℕ). z ++ no_line r.0) c.in-Ok.ensures.items ∙ ap (λ (z : List ℕ). c.args.reply.now.items ++ z) (no_is b.state dims r.0 refused))) c.push_no.ensures.said
+
+pub returns-in-Err-clause-stands : goal.returns-in-Err-clause-stands
+returns-in-Err-clause-stands g c = on_ok_weaker c.push_no.result (λ r said b h.
+    let old = g.R.Rig.state c.args.rig.now in
+    let dims = dims_of c.args.dims.now in
+    let refused = if_some (refusal_of c.in-Err.error) r.0 (λ (x : Refusal). after_edit b.state (remove dims) ≡ Err x) r.1
+      (c.in-Err.ensures.refused h.now.image.seen (known_seen old Image h.now h.known) b.start h.stands.live b.state h.stands.has) in
+    let kept = c.in-Err.ensures.untouched (no_device c.in-Err.error r.0 r.1) in
+    refused_stands c.args.engine.now c.remove.new.self old (g.R.Rig.state c.remove.new.rig) said b dims h r.0 refused kept.1 kept.0.same) c.push_no.ensures.said
+
+pub returns-in-Err-clause-ready : goal.returns-in-Err-clause-ready
+returns-in-Err-clause-ready g c = on_ok_weaker c.push_no.result (λ r.
+    let kept = c.in-Err.ensures.untouched (no_device c.in-Err.error r.0 r.1) in
+    refused_ready c.args.engine.now c.remove.new.self (g.R.Rig.state c.args.rig.now) (g.R.Rig.state c.remove.new.rig) c.requires.ready kept.1
+    (record { image = kept.0.same.image; journal = kept.0.same.journal }) c.in-Err.ensures.goes_on) c.push_no.ensures.said

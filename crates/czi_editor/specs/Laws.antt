@@ -1,0 +1,72 @@
+-- The laws of an editor hold of an engine.
+use Rattle.std.specs.Prelude.{◌≡◌, ℕ, ◌<◌, List, length, Option, Some, None, is_some, option_map, refl, Result, Ok, Err}
+use Rattle.std.proofs.Common.{sym, ◌∙◌, ap}
+use Rattle.std.proofs.Math.Nat.{zero-lt-suc}
+use Rattle.std.proofs.lemmas.Bool.{false≢true}
+use Rattle.czi_rig.specs.declared.file.File.TheVariants.{Image, Journal}
+use Rattle.czi_rig.specs.Disk.{Disk, Left}
+use Rattle.czi_rig.specs.State.{State, SameFiles}
+use Rattle.czi_rig.specs.Passes.{GoesOn}
+use Rattle.czi_rig.specs.Moments.{Devices, devices, all_of}
+use Rattle.czi_rig.proofs.Known.{known_file, known_said}
+use Rattle.czi_machine.specs.Edit.{Refusal, too_long, no_key, duplicate, too_many, nothing, full, remove}
+use Rattle.czi_machine.specs.Machine.{after_edit}
+use Rattle.czi_machine.specs.State.{State as MachineState}
+use Rattle.czi_report.specs.States.{list_of, info_of}
+use Rattle.czi_report.specs.Text.{items_text, number_line}
+use Rattle.czi_script.specs.Script.{Command, Remove, Listing, Info}
+use Rattle.czi_engine.specs.declared.engine.Engine.{Engine}
+use Rattle.czi_engine.proofs.Keeping.{has_opens}
+use Rattle.czi_editor.specs.Machine.{AtState, Begun, IsReady, opens_in}
+use Rattle.czi_editor.specs.Replies.{edit_reply, no_line, ok_line, reply}
+
+-- whatever a crash leaves of the files of a state opens to it
+pub opens_whatever : (x : Engine) (image journal : Disk) (b : Begun) → AtState x image journal b → (i j : List ℕ) → Left image.durable i → Left journal.durable j → opens_in i j b
+opens_whatever x image journal b at i j li lj = has_opens b.start image.seen i j at.live b.state at.has.stands at.has.kept (at.itself i j li lj)
+
+said_before : (old new : Option (List ℕ)) (b : List ℕ) → is_some new ≡ is_some old → new ≡ Some b → (a : List ℕ) × (old ≡ Some a)
+said_before None new b same is = absurd (false≢true (sym same ∙ ap is_some is))
+said_before (Some a) new b same is = (a, refl)
+
+-- an engine stays ready while something is said
+pub stays_ready_of : (x : Engine) (old new : State) → IsReady x old → SameFiles old new → GoesOn old new → IsReady x new
+stays_ready_of x old new ready files goes =
+    let on = ready.stands in
+    record {
+      stands = record {
+        image = λ disk is. on.image disk (sym files.image ∙ is);
+        itself = λ now is.
+            let said = said_before old.said new.said now.said goes.tells_said (known_said new now is) in
+            let all : Devices = record { image = now.image; journal = now.journal; said = said.0 } in
+            let was : devices old ≡ Some all = λ k. all_of ((sym files.image ∙ known_file new Image now is) k) ((sym files.journal ∙ known_file new Journal now is) k) (said.1 k) in
+            on.itself all was;
+        state = λ bytes is. on.state bytes (ap (option_map (λ (d : Disk). d.seen)) (sym files.image) ∙ is);
+        armed = λ disk is. on.armed disk (sym files.journal ∙ is);
+        idle = λ off disk is. on.idle off disk (sym files.journal ∙ is);
+        own_map = on.own_map;
+        whole = on.whole;
+        few = on.few;
+      };
+      up = ready.up;
+    }
+
+no_some : (r : Refusal) → 0 < length (no_line r)
+unfolding no_line number_line
+no_some (too_long n limit) = zero-lt-suc _
+no_some no_key = zero-lt-suc _
+no_some (duplicate place) = zero-lt-suc _
+no_some (too_many count) = zero-lt-suc _
+no_some nothing = zero-lt-suc _
+no_some (full need n) = zero-lt-suc _
+
+edit_some : (r : Result MachineState Refusal) → 0 < length (edit_reply r)
+unfolding ok_line number_line
+edit_some (Ok s) = zero-lt-suc _
+edit_some (Err refusal) = no_some refusal
+
+-- no reply is empty
+pub each_says : (s : MachineState) (c : Command) → 0 < length (reply s c)
+unfolding list_of info_of items_text number_line
+each_says s (Remove dims) = edit_some (after_edit s (remove dims))
+each_says s Listing = zero-lt-suc _
+each_says s Info = zero-lt-suc _

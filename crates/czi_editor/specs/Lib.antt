@@ -1,0 +1,5 @@
+pub mod Refusals
+pub mod Replies
+pub mod Answers
+pub mod Machine
+pub mod Laws

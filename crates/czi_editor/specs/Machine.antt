@@ -1,0 +1,64 @@
+-- The machine of edits over the files of an image, as a session runs it.
+use Rattle.std.specs.Prelude.{◌≡◌, ℕ, pos, List, IsFalse}
+use Rattle.czi_format.specs.Bytes.{IsBytes}
+use Rattle.czi_format.specs.Live.{Live, update_pending}
+use Rattle.czi_journal.specs.Journals.{slot_of}
+use Rattle.czi_links.specs.Reading.{Void}
+use Rattle.czi_machine.specs.State.{State as MachineState}
+use Rattle.czi_opening.specs.Opens.{Cause, IsRefusedBy}
+use Rattle.czi_rig.specs.Disk.{Disk, IsAtRest}
+use Rattle.czi_rig.specs.State.{State}
+use Rattle.czi_session.specs.Course.{Model}
+use Rattle.czi_vault.specs.Recovered.{Recovered}
+use Rattle.czi_engine.specs.Editing.{OpensIn}
+use Rattle.czi_engine.specs.Standing.{HasState, IsFresh, IsItself, StandsOnRig}
+use Rattle.czi_engine.specs.declared.engine.Engine.{Engine}
+use Rattle.czi_editor.specs.Refusals.{cause_text}
+use Rattle.czi_editor.specs.Replies.{after, reply}
+
+-- a state of a run, and the bytes at its start
+pub record Begun : Type 0 where
+  pub start : List ℕ
+  pub state : MachineState
+
+-- A run begins at this state: image and journal stand for bytes (numbers below 256) with no update pending, which show the state's document in its
+-- layout; there are no formers, and no command was accepted yet.
+pub record Begins (image journal : List ℕ) (b : Begun) : Type 0 where
+  pub recovered : Recovered image journal b.start
+  pub numbers : IsBytes b.start
+  pub whole : update_pending b.start ≡ pos 0
+  pub fresh : IsFresh b.start 0 b.state
+
+-- they are refused for a cause, and this is its line
+pub record IsRefused (image journal text : List ℕ) : Type 0 where
+  pub cause : Cause
+  pub refused : IsRefusedBy image journal cause
+  pub text_is : text ≡ cause_text cause
+
+abbrev pub opens_in : List ℕ → List ℕ → Begun → Type 0
+opens_in image journal b = OpensIn b.start image journal b.state
+
+-- The states, which pairs of files a run begins at and opens to, which are refused and with what line, what a command makes of a
+-- state, and its reply.
+abbrev pub the_machine : Model
+the_machine = record {
+  Document = Begun;
+  begins = Begins;
+  opens = opens_in;
+  refuses = IsRefused;
+  void = λ journal. slot_of journal ≡ Void;
+  after = λ b c. record { start = b.start; state = after b.state c };
+  reply = λ b c. reply b.state c;
+}
+
+-- an engine stands on an image and a journal at a state
+pub record AtState (x : Engine) (image journal : Disk) (b : Begun) : Type 0 where
+  pub rest : IsAtRest image
+  pub itself : IsItself image journal
+  pub live : Live
+  pub has : HasState b.start image.seen live b.state x
+
+-- an engine may be used on a device
+pub record IsReady (x : Engine) (s : State) : Type 0 where
+  pub stands : StandsOnRig s x
+  pub up : IsFalse x.down

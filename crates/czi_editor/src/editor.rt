@@ -1,0 +1,130 @@
+//! The engine as an editor of a session.
+
+ghost use Rattle.std.specs.Prelude.{◌≡◌, ◌++◌, List, ℕ, IfErr, OnOk};
+ghost use Rattle.czi_doc.specs.View.{dims_of};
+ghost use Rattle.czi_format.specs.Live.{Live};
+ghost use Rattle.czi_image.specs.Holds.{Holds};
+ghost use Rattle.czi_machine.specs.Edit.{remove};
+ghost use Rattle.czi_machine.specs.Machine.{after_edit};
+ghost use Rattle.czi_report.specs.Text.{info_text, list_text};
+ghost use Rattle.czi_rig.specs.Passes.{GoesOn};
+ghost use Rattle.czi_rig.specs.Moments.{Throughout};
+ghost use Rattle.czi_script.specs.Script.{Remove};
+ghost use Rattle.czi_session.specs.Causes.{EditorStops};
+ghost use Rattle.czi_session.specs.Course.{EitherSide, Stands};
+ghost use Rattle.czi_editor.specs.Laws.{each_says, opens_whatever, stays_ready_of};
+ghost use Rattle.czi_editor.specs.Machine.{AtState, Begun, IsReady, the_machine};
+ghost use Rattle.czi_editor.specs.Replies.{edit_reply};
+
+use crate::refusal::stop_of;
+use crate::reply::{push_no, push_ok};
+use czi_doc::Dims;
+use czi_engine::Engine;
+use czi_report::{info, list};
+use czi_rig::{Failed, Rig};
+use czi_script::Command;
+use czi_session::{Editor, EditorStop, OpenStop};
+use std::alloc::{AllocError, Global};
+
+/// More bytes than a reply to an edit has: a word, two numbers of at most 20 digits, and spaces.
+const LONGEST_REPLY: usize = 64;
+
+/// An engine, whose commands and replies are those of a script.
+#[derive(Drop)]
+pub struct ImageEditor {
+    engine: Engine,
+}
+
+/// Removes a subblock, and appends the reply. Memory for the reply is taken first.
+fn remove<R: Rig>(
+    engine: &mut Engine,
+    alloc: Global,
+    rig: &mut R,
+    dims: &Dims,
+    reply: &mut Vec<u8>,
+) -> Result<(), EditorStop>
+    requires ready { IsReady engine.old (R.state rig.old) }
+
+    ensures moments { (said : List ℕ) (b : Begun) → Stands the_machine (AtState engine.old) (R.state rig.old) said b →
+        Throughout R.Rig rig.old rig.new (EitherSide the_machine b (Remove (dims_of dims.now)) said) }
+    ensures replied { OnOk result ((said : List ℕ) (b : Begun) → Stands the_machine (AtState engine.old) (R.state rig.old) said b →
+        reply.new.items ≡ reply.old.items ++ edit_reply (after_edit b.state (remove (dims_of dims.now)))) }
+    ensures stands { OnOk result ((said : List ℕ) (b : Begun) → Stands the_machine (AtState engine.old) (R.state rig.old) said b →
+        Stands the_machine (AtState engine.new) (R.state rig.new) said (the_machine.after b (Remove (dims_of dims.now)))) }
+    ensures ready { OnOk result (IsReady engine.new (R.state rig.new)) }
+    ensures said { (R.state rig.new).said ≡ (R.state rig.old).said }
+    ensures goes_on { GoesOn (R.state rig.old) (R.state rig.new) }
+    ensures cause { IfErr result (λ stop. EditorStops stop (R.state rig.old) (R.state rig.new)) }
+{
+    let Ok(()) = reply.reserve(LONGEST_REPLY) else {
+        return Err(EditorStop::Memory);
+    };
+    match engine.remove(alloc, rig, dims) {
+        Ok(number) => match push_ok(reply, number) {
+            Ok(()) => Ok(()),
+            Err(AllocError) => Err(EditorStop::Memory),
+        },
+        Err(error) => push_no(reply, &error),
+    }
+}
+
+/// Appends the list of the subblocks.
+fn push_list(engine: &Engine, reply: &mut Vec<u8>) -> Result<(), EditorStop>
+    ensures said { OnOk result ((live : Live) → Holds live engine.now.index → reply.new.items ≡ reply.old.items ++ list_text live) }
+    ensures stopped { IfErr result (λ stop. stop ≡ EditorStop.Memory) }
+{
+    match list(engine.index(), reply) {
+        Ok(()) => Ok(()),
+        Err(AllocError) => Err(EditorStop::Memory),
+    }
+}
+
+/// Appends what the image holds, and where it lies.
+fn push_info(engine: &Engine, reply: &mut Vec<u8>) -> Result<(), EditorStop>
+    ensures said { OnOk result ((live : Live) → Holds live engine.now.index → reply.new.items ≡ reply.old.items ++ info_text engine.now.index.length live) }
+    ensures stopped { IfErr result (λ stop. stop ≡ EditorStop.Memory) }
+{
+    match info(engine.index(), reply) {
+        Ok(()) => Ok(()),
+        Err(AllocError) => Err(EditorStop::Memory),
+    }
+}
+
+impl Editor for ImageEditor {
+    ghost model = { the_machine };
+
+    ghost stands = { λ editor image journal b. AtState editor.engine image journal b };
+
+    ghost ready = { λ editor s. IsReady editor.engine s };
+
+    ghost stays_ready = { λ editor old new ready files goes. stays_ready_of editor.engine old new ready files goes };
+
+    ghost opens_now = { λ editor image journal b. opens_whatever editor.engine image journal b };
+
+    ghost says_something = { λ b c. each_says b.state c };
+
+    fn open<R: Rig>(alloc: Global, rig: &mut R) -> Result<ImageEditor, OpenStop> {
+        match Engine::open(alloc, rig) {
+            Ok(engine) => Ok(ImageEditor { engine }),
+            Err(error) => Err(stop_of(alloc, &error)),
+        }
+    }
+
+    fn perform<R: Rig>(
+        &mut self,
+        alloc: Global,
+        rig: &mut R,
+        command: &Command,
+        reply: &mut Vec<u8>,
+    ) -> Result<(), EditorStop> {
+        match command {
+            Command::Remove { dims } => remove(&mut self.engine, alloc, rig, dims, reply),
+            Command::List => push_list(&self.engine, reply),
+            Command::Info => push_info(&self.engine, reply),
+        }
+    }
+
+    fn seal<R: Rig>(self, rig: &mut R) -> Result<(), Failed> {
+        self.engine.seal(rig)
+    }
+}

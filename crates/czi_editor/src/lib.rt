@@ -1,0 +1,11 @@
+//! The engine as an editor of a session: the machine over the files, its commands, and what each replies.
+#![tactic(auto)]
+
+mod editor;
+mod refusal;
+mod reply;
+#[cfg(test)]
+mod tests;
+mod text;
+
+pub use editor::ImageEditor;
