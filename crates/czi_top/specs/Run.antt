@@ -1,39 +1,93 @@
--- How a run ends.
-use Rattle.std.specs.Prelude.{◌≡◌, ◌⊎◌, ℕ, ◌<◌, ◌≤◌, List, ◌++◌, length, take, Option, Some, None, option_map, Result, Ok, Err}
+-- What a run of the program does.
+use Rattle.std.specs.Prelude.{◌≡◌, ◌≢◌, ◌⊎◌, ℕ, ◌+◌, ◌^◌, ◌<◌, ◌≤◌, List, [], ◌∷◌, ◌++◌, length, take, codes, Option, Some, None, option_map}
 use Rattle.czi_rig.specs.State.{State}
+use Rattle.czi_rig.specs.Moments.{Devices, devices}
 use Rattle.czi_rig.specs.Passes.{Rose}
-use Rattle.czi_format.specs.Live.{Live}
-use Rattle.czi_top.specs.Words.{Command}
-use Rattle.czi_top.specs.Opening.{Cause}
-use Rattle.czi_top.specs.Text.{reply, usage}
+use Rattle.czi_script.specs.Script.{Command as Step, Listing, Info, End, Done as Finished, Reads}
+use Rattle.czi_session.specs.Causes.{EndsAlone}
+use Rattle.czi_session.specs.Course.{Opening}
+use Rattle.czi_session.specs.Ends.{EndsSo, OneEnds, Takes, most_of}
+use Rattle.czi_session.specs.declared.stop.Ended.{Ended}
+use Rattle.czi_session.specs.declared.stop.Ended.TheVariants.{Done, Refused, Stopped}
+use Rattle.czi_session.specs.declared.stop.Stop.TheVariants.{Script, Image, Journal, Output, Input, Memory, TooLong}
+use Rattle.czi_editor.specs.Machine.{Begun, IsRefused, the_machine}
+use Rattle.czi_top.specs.Words.{Command, list, info, edit}
 
--- the status that goes with what a command finds
-abbrev pub status_of : Result Live Cause → ℕ
-status_of (Ok live) = 0
-status_of (Err cause) = 2
+-- what is said where the words are no command
+unfoldable pub usage : List ℕ
+usage = codes "usage: czi_tool FILE COMMAND [name=value ...]" ++ 10 ∷ []
 
--- what is said over an image and a journal: the reply to the command, or the usage line where there is none
-abbrev pub said_by : Option Command → (image journal : List ℕ) → List ℕ
-said_by (Some command) image journal = reply command image journal
-said_by None image journal = usage
+-- The commands of a run, and how they end: `list` and `info` are the script of that one line; `edit` runs the script that the
+-- input gives.
+abbrev pub Asks : Command → Option (List ℕ) → List Step → End → Type 0
+Asks list left cs end = (cs ≡ Listing ∷ []) × (end ≡ Finished)
+Asks info left cs end = (cs ≡ Info ∷ []) × (end ≡ Finished)
+Asks edit left cs end = (input : List ℕ) × (left ≡ Some input) × Reads 1 input cs end
+
+-- the exit status
+abbrev pub code_of : Ended → ℕ
+code_of Done = 0
+code_of Refused = 2
+code_of (Stopped (Script number kind)) = 3
+code_of (Stopped Image) = 4
+code_of (Stopped Journal) = 5
+code_of (Stopped Output) = 6
+code_of (Stopped Input) = 7
+code_of (Stopped Memory) = 8
+code_of (Stopped TooLong) = 9
+
+-- What stands and was said where a run ends that began at a state: `left` is what the input had left, `now` what it has left.
+abbrev pub EndsAt : Command → State → (left now : Option (List ℕ)) → Begun → List ℕ → Ended → Type 0
+EndsAt list state left now b said ended = OneEnds the_machine state b Listing said ended
+EndsAt info state left now b said ended = OneEnds the_machine state b Info said ended
+EndsAt edit state left now b said ended = (cs : List Step) (end : End) (input : List ℕ) → left ≡ Some input → Reads 1 input cs end → EndsSo the_machine state now b cs end said input ended
+
+-- `list` and `info` end in no fault of a script or the input
+abbrev pub IsAlone : Command → Ended → Type 0
+IsAlone list ended = EndsAlone ended
+IsAlone info ended = EndsAlone ended
+IsAlone edit ended = Unit {0}
+
+-- it ended with this status
+pub record EndsWith (command : Command) (old new : State) (left now : Option (List ℕ)) (status : ℕ) : Type 0 where
+  pub ended : Ended
+  pub status_is : status ≡ code_of ended
+  pub alone : IsAlone command ended
+  pub at : (said : List ℕ) (b : Begun) → Opening the_machine old said b → EndsAt command new left now b said ended
+
+-- what is taken of the input: nothing but by `edit`
+abbrev pub TakesFor : Command → (left now : Option (List ℕ)) → Ended → Type 0
+TakesFor list left now ended = now ≡ left
+TakesFor info left now ended = now ≡ left
+TakesFor edit left now ended = Takes left now (most_of ended)
+
+-- the same, told by the status
+abbrev pub Took : Command → (left now : Option (List ℕ)) → ℕ → Type 0
+Took list left now status = now ≡ left
+Took info left now status = now ≡ left
+Took edit left now status = (ended : Ended) × (status ≡ code_of ended) × Takes left now (most_of ended)
+
+-- the script is one that ends well, and not too long
+abbrev pub EndsWell : Command → Option (List ℕ) → Type 0
+EndsWell list left = Unit {0}
+EndsWell info left = Unit {0}
+EndsWell edit left = (cs : List Step) × (input : List ℕ) × (left ≡ Some input) × Reads 1 input cs Finished × (length input ≤ 2 ^ 40)
+
+-- both files are refused, and this is the line that says why
+abbrev pub RefusedWith : State → List ℕ → Type 0
+RefusedWith old text = (all : Devices) × (devices old ≡ Some all) × IsRefused all.image.seen all.journal.seen text
 
 -- this was said, and nothing else
 abbrev pub Says : List ℕ → State → State → Type 0
 Says bytes old new = new.said ≡ option_map (λ (said : List ℕ). said ++ bytes) old.said
 
--- A run says this text whole where it ends with this status. A fault of the output cuts the text short, and at
--- any other end nothing was said.
-pub record Ends (text : List ℕ) (wanted : ℕ) (old new : State) (status : ℕ) : Type 0 where
-  pub answered : status < 3 → (status ≡ wanted) × Says text old new
-  pub cut_short : status ≡ 6 → (n : ℕ) × (n ≤ length text) × Says (take n text) old new
-  pub silent : (status ≡ 4) ⊎ (status ≡ 5) ⊎ (status ≡ 8) → new.said ≡ old.said
+-- The usage line was said whole, or a fault of the output cut it short.
+abbrev pub SaysUsage : State → State → ℕ → Type 0
+SaysUsage old new status = ((status ≡ 1) × Says usage old new) ⊎ ((status ≡ 6) × (n : ℕ) × (n ≤ length usage) × Says (take n usage) old new)
 
--- the statuses that a run has
-abbrev pub IsStatus : ℕ → Type 0
-IsStatus n = (n ≡ 0) ⊎ (n ≡ 1) ⊎ (n ≡ 2) ⊎ (n ≡ 4) ⊎ (n ≡ 5) ⊎ (n ≡ 6) ⊎ (n ≡ 8)
-
--- no device failed
-pub record Quiet (old new : State) : Type 0 where
-  pub image : Rose old.image_faults new.image_faults → ⊥
-  pub journal : Rose old.journal_faults new.journal_faults → ⊥
-  pub output : Rose old.output_faults new.output_faults → ⊥
+-- a fault's status comes only where its count rose
+pub record HasCauses (old new : State) (before now : ℕ) (status : ℕ) : Type 0 where
+  pub image : status ≡ 4 → Rose old.image_faults new.image_faults
+  pub journal : status ≡ 5 → Rose old.journal_faults new.journal_faults
+  pub output : status ≡ 6 → Rose old.output_faults new.output_faults
+  pub input : status ≡ 7 → Rose before now

@@ -1,10 +1,11 @@
 -- The words of the command line.
 use Rattle.std.specs.Prelude.{ℕ, List, [], ◌∷◌, Bool, true, false, not, ◌&&◌, ◌==◌, Option, Some, None, codes, bytes_eq, if◌then◌else◌}
 
--- what can be asked of an image
+-- What can be asked of an image: to list its subblocks, to tell of it, or to run the script that the input gives.
 pub data Command : Type 0 where
   list : Command
   info : Command
+  edit : Command
 
 -- doesn't begin with a dash
 abbrev pub is_plain : List ℕ → Bool
@@ -21,6 +22,7 @@ abbrev pub named : List ℕ → Option Command
 named word =
     if bytes_eq word (codes "list") then Some list
     else if bytes_eq word (codes "info") then Some info
+    else if bytes_eq word (codes "edit") then Some edit
     else None
 
 -- The command that the words ask for: a file, which isn't empty and doesn't begin with a dash, and the name of a command.

@@ -1,11 +1,8 @@
 //! The program: what the words of the command line ask for, done over a rig and an input.
 #![tactic(auto)]
 
-mod refusal;
-mod stop;
 #[cfg(test)]
 mod tests;
-mod text;
 mod top;
 mod words;
 

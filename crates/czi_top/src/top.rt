@@ -1,171 +1,125 @@
-// The top call of the program.
-ghost use Rattle.std.specs.Prelude.{◌≡◌, ◌≢◌, ◌⊎◌, ◌++◌, ◌==◌, not, None, map, take, length, string_bytes, IfOk, IfErr, OnOk, option_map};
+//! The top call of the program.
+
+ghost use Rattle.std.specs.Prelude.{◌≡◌, ◌≢◌, ◌⊎◌, ◌++◌, ℕ, List, Some, None, map, take, length, string_bytes, OnOk};
 ghost use Rattle.std.specs.Option.{ForSome};
-ghost use Rattle.czi_format.specs.Live.{Live};
-ghost use Rattle.czi_image.specs.Holds.{Holds};
+ghost use Rattle.czi_journal.specs.Journals.{slot_of};
+ghost use Rattle.czi_links.specs.Reading.{Void};
 ghost use Rattle.czi_rig.specs.State.{SameFiles, seen_of};
 ghost use Rattle.czi_rig.specs.Passes.{GoesOn, Rose};
 ghost use Rattle.czi_rig.specs.Moments.{devices, Throughout, LeavesSaying};
-ghost use Rattle.czi_rig.specs.Quiet.{Untouched};
-ghost use Rattle.czi_top.specs.Words.{command_of};
-ghost use Rattle.czi_top.specs.Opening.{opening};
-ghost use Rattle.czi_top.specs.Text.{reply, report, usage};
+ghost use Rattle.czi_script.specs.Script.{Command as Step, End};
+ghost use Rattle.czi_session.specs.Causes.{EndsWithCause};
+ghost use Rattle.czi_session.specs.Course.{From, Nothing, Opening, OpensToPrefix};
+ghost use Rattle.czi_session.specs.Ends.{Answers, Quiet, RefusedSo};
+ghost use Rattle.czi_session.specs.Text.{last_text};
+ghost use Rattle.czi_session.specs.declared.stop.Ended.TheVariants as ends;
+ghost use Rattle.czi_editor.specs.Machine.{Begun, the_machine};
+ghost use Rattle.czi_top.specs.Words.{Command as Asked, command_of};
 ghost use Rattle.czi_top.specs.View.{command_view};
-ghost use Rattle.czi_top.specs.Run.{Ends, IsStatus, Quiet, Says, said_by, status_of};
-ghost use Rattle.czi_top.specs.Causes.{HasRisen, LooksFor};
-ghost use Rattle.czi_top.specs.Reply.{IsReply, StopsCommand, StopsSaying, code_of};
+ghost use Rattle.czi_top.specs.Run.{Asks, EndsAt, EndsWell, EndsWith, HasCauses, IsAlone, RefusedWith, Says, SaysUsage, TakesFor, Took, code_of, usage};
 
-use crate::refusal::refusal_text;
-use crate::stop::Stop;
 use crate::words::{Command, command_of};
-use czi_image::{Index, read_index};
-use czi_report::{info, list};
-use czi_rig::{File, Rig, Source};
-use std::alloc::{AllocError, Global};
+use czi_editor::ImageEditor;
+use czi_rig::{Failed, File, Rig, Source};
+use czi_script::Command as Query;
+use czi_session::{Ended, Stop, edit, one};
+use std::alloc::Global;
 
 const USAGE: &[u8] = b"usage: czi_tool FILE COMMAND [name=value ...]\n";
 
-/// What a command says, and the status that goes with it.
-#[derive(Drop)]
-struct Reply {
-    text: Vec<u8>,
-    status: u8,
+/// Says how the words of a command are written.
+fn say_usage<R: Rig>(rig: &mut R) -> u8
+    ensures said { SaysUsage (R.state rig.old) (R.state rig.new) result }
+    ensures files { SameFiles (R.state rig.old) (R.state rig.new) }
+    ensures moments { ForSome (devices (R.state rig.old)) (λ all. Throughout R.Rig rig.old rig.new (LeavesSaying all usage)) }
+    ensures goes_on { GoesOn (R.state rig.old) (R.state rig.new) }
+    ensures cause { result ≡ 6 → Rose (R.state rig.old).output_faults (R.state rig.new).output_faults }
+{
+    match rig.say(USAGE) {
+        Ok(()) => 1,
+        Err(Failed) => 6,
+    }
 }
 
-/// What a command says of an image with this index.
-fn report(alloc: Global, command: Command, index: &Index) -> Result<Vec<u8>, AllocError>
-    ensures { IfOk result (λ text. (live : Live) → Holds live index.now → text.items ≡ report (command_view command) index.now.length live) }
+/// Runs the script that a command stands for.
+fn obey<R: Rig, S: Source>(alloc: Global, command: Command, rig: &mut R, input: &mut S) -> Ended
+    ensures headline { (cs : List Step) (end : End) (said : List ℕ) (b : Begun) → Asks (command_view command) (S.input input.old).left cs end → Opening the_machine (R.state rig.old) said b →
+        Nothing R.Rig rig.old rig.new ⊎ From R.Rig rig.old rig.new (OpensToPrefix the_machine b cs (last_text end) said) }
+    ensures ends { (said : List ℕ) (b : Begun) → Opening the_machine (R.state rig.old) said b → EndsAt (command_view command) (R.state rig.new) (S.input input.old).left (S.input input.new).left b said result }
+    ensures void { result ≡ Ended.Done → ForSome (seen_of (R.state rig.new) File.Journal) (λ journal. slot_of journal ≡ Void) }
+    ensures refused { result ≡ Ended.Refused → RefusedSo the_machine (R.state rig.old) (R.state rig.new) }
+    ensures complete { (said : List ℕ) (b : Begun) → Opening the_machine (R.state rig.old) said b → EndsWell (command_view command) (S.input input.old).left →
+        Quiet (R.state rig.old) (R.state rig.new) (S.input input.old).faults (S.input input.new).faults → Answers Ended.Done result }
+    ensures refuses { (text : List ℕ) → RefusedWith (R.state rig.old) text → Quiet (R.state rig.old) (R.state rig.new) (S.input input.old).faults (S.input input.new).faults → Answers Ended.Refused result }
+    ensures alone { IsAlone (command_view command) result }
+    ensures takes { TakesFor (command_view command) (S.input input.old).left (S.input input.new).left result }
+    ensures goes_on { GoesOn (R.state rig.old) (R.state rig.new) }
+    ensures cause { EndsWithCause result (R.state rig.old) (R.state rig.new) (S.input input.old).faults (S.input input.new).faults }
 {
-    let mut text = Vec::new(alloc);
     match command {
-        Command::List => list(index, &mut text)?,
-        Command::Info => info(index, &mut text)?,
-    }
-    Ok(text)
-}
-
-/// The reply of a refusal.
-fn refused(text: Vec<u8>) -> Reply
-    ensures text { result.text ≡ text }
-    ensures status { result.status ≡ 2 }
-{
-    Reply { text, status: 2 }
-}
-
-/// Whether a journal stands beside the image.
-fn has_journal<R: Rig>(rig: &mut R) -> Result<bool, Stop>
-    ensures found { IfOk result (λ there. ForSome (seen_of (R.state rig.old) File.Journal) (λ journal. there ≡ not (length journal == 0))) }
-    ensures untouched { Untouched R.Rig rig.old rig.new }
-    ensures cause { LooksFor (R.state rig.old) (R.state rig.new) result }
-{
-    match rig.len(File::Journal) {
-        Ok(length) => Ok(length != 0),
-        Err(_) => Err(Stop::Journal),
+        Command::List => one::<ImageEditor, R>(alloc, rig, &Query::List),
+        Command::Info => one::<ImageEditor, R>(alloc, rig, &Query::Info),
+        Command::Edit => edit::<ImageEditor, R, S>(alloc, rig, input),
     }
 }
 
-/// Reads the image, where no journal stands beside it, and answers what the command says.
-fn answer<R: Rig>(alloc: Global, rig: &mut R, command: Command) -> Result<Reply, Stop>
-    ensures found { IfOk result (λ r. ForSome (seen_of (R.state rig.old) File.Image) (λ image. ForSome (seen_of (R.state rig.old) File.Journal) (λ journal.
-        IsReply (command_view command) image journal r))) }
-    ensures status { IfOk result (λ r. (r.status ≡ 0) ⊎ (r.status ≡ 2)) }
-    ensures untouched { Untouched R.Rig rig.old rig.new }
-    ensures cause { LooksFor (R.state rig.old) (R.state rig.new) result }
-{
-    if has_journal(rig)? {
-        return Ok(refused(Vec::from_slice(alloc, b"refused later\n")?));
-    }
-    match read_index(alloc, rig) {
-        Ok(index) => Ok(Reply {
-            text: report(alloc, command, &index)?,
-            status: 0,
-        }),
-        Err(fault) => Ok(refused(refusal_text(alloc, &fault)?)),
-    }
-}
-
-/// Says all of the bytes.
-fn say<R: Rig>(rig: &mut R, bytes: &[u8]) -> Result<(), Stop>
-    ensures said { OnOk result (Says bytes.now (R.state rig.old) (R.state rig.new)) }
-    ensures stopped { IfErr result (StopsSaying bytes.now (R.state rig.old) (R.state rig.new)) }
-    ensures files { SameFiles (R.state rig.old) (R.state rig.new) }
-    ensures goes_on { GoesOn (R.state rig.old) (R.state rig.new) }
-    ensures moments { ForSome (devices (R.state rig.old)) (λ all. Throughout R.Rig rig.old rig.new (LeavesSaying all bytes.now)) }
-{
-    match rig.say(bytes) {
-        Ok(()) => Ok(()),
-        Err(_) => Err(Stop::Output),
-    }
-}
-
-/// Does a command, and answers the status: 0, or 2 where the image is refused.
-fn perform<R: Rig>(alloc: Global, rig: &mut R, command: Command) -> Result<u8, Stop>
-    ensures answered { IfOk result (λ status. ForSome (seen_of (R.state rig.old) File.Image) (λ image. ForSome (seen_of (R.state rig.old) File.Journal) (λ journal.
-        (status ≡ status_of (opening image journal)) × Says (reply (command_view command) image journal) (R.state rig.old) (R.state rig.new)))) }
-    ensures status { IfOk result (λ status. (status ≡ 0) ⊎ (status ≡ 2)) }
-    ensures stopped { IfErr result (λ stop. ForSome (seen_of (R.state rig.old) File.Image) (λ image. ForSome (seen_of (R.state rig.old) File.Journal) (λ journal.
-        StopsCommand (reply (command_view command) image journal) (R.state rig.old) (R.state rig.new) stop))) }
-    ensures cause { IfErr result (HasRisen (R.state rig.old) (R.state rig.new)) }
-    ensures files { SameFiles (R.state rig.old) (R.state rig.new) }
-    ensures goes_on { GoesOn (R.state rig.old) (R.state rig.new) }
-    ensures moments { ForSome (devices (R.state rig.old)) (λ all. Throughout R.Rig rig.old rig.new (LeavesSaying all (reply (command_view command) all.image.seen all.journal.seen))) }
-{
-    let reply = answer(alloc, rig, command)?;
-    say(rig, &reply.text)?;
-    Ok(reply.status)
-}
-
-/// The exit status of a run that did its command, or stopped.
-fn status_of(ended: Result<u8, Stop>) -> u8
+/// The exit status.
+fn code_of(ended: Ended) -> u8
     ensures { result ≡ code_of ended }
 {
     match ended {
-        Ok(status) => status,
-        Err(Stop::Image) => 4,
-        Err(Stop::Journal) => 5,
-        Err(Stop::Output) => 6,
-        Err(Stop::Memory) => 8,
+        Ended::Done => 0,
+        Ended::Refused => 2,
+        Ended::Stopped(Stop::Script(_, _)) => 3,
+        Ended::Stopped(Stop::Image) => 4,
+        Ended::Stopped(Stop::Journal) => 5,
+        Ended::Stopped(Stop::Output) => 6,
+        Ended::Stopped(Stop::Input) => 7,
+        Ended::Stopped(Stop::Memory) => 8,
+        Ended::Stopped(Stop::TooLong) => 9,
     }
 }
 
 /// Does what the words ask for, and answers the exit status.
 ///
-/// `FILE list` says how many subblocks the image has, and a line for each; `FILE info` says all that the image holds,
-/// and where it lies. Nothing is written and the input isn't read. The statuses: 0 the reply was said; 1 the words are
-/// no command, and the usage line is said; 2 the image is refused, and the refusal is said; 4, 5, 6 a fault of the
-/// image, the journal or the output; 8 want of memory.
-pub fn run<R: Rig, S: Source>(alloc: Global, words: &[String], rig: &mut R, _input: &mut S) -> u8
+/// `FILE list` says how many subblocks the image has, and a line for each; `FILE info` says all that the image holds, and
+/// where it lies; `FILE edit` runs the script that the input gives. Each opens the image beside its journal, with recovery,
+/// and seals the journal at the end. A command's whole reply is said before the next command is read.
+///
+/// The statuses: 0 everything was done; 1 the words are no command, and the usage line is said; 2 the image is refused, and
+/// the refusal is said; 3 the input isn't a script, and its fault is said; 4, 5, 6, 7 a fault of the image, the journal, the
+/// output or the input; 8 want of memory; 9 the input goes on behind 2^40 bytes.
+pub fn run<R: Rig, S: Source>(alloc: Global, words: &[String], rig: &mut R, input: &mut S) -> u8
     // Exactly where the words are no command the usage line is said, with status 1, unless the output fails.
-    ensures usage { command_of (map (λ s. string_bytes s) words.now) ≡ None →
-        ((result ≡ 1) ⊎ (result ≡ 6)) × Ends usage 1 (R.state rig.old) (R.state rig.new) result }
+    ensures usage { command_of (map (λ s. string_bytes s) words.now) ≡ None → SaysUsage (R.state rig.old) (R.state rig.new) result × SameFiles (R.state rig.old) (R.state rig.new)
+        × ((S.input input.new).left ≡ (S.input input.old).left) × ForSome (devices (R.state rig.old)) (λ all. Throughout R.Rig rig.old rig.new (LeavesSaying all usage)) }
     ensures command { ForSome (command_of (map (λ s. string_bytes s) words.now)) (λ _. result ≢ 1) }
 
-    // Otherwise what is said and the status are those that the bytes of the image and the journal have.
-    ensures reply { ForSome (command_of (map (λ s. string_bytes s) words.now)) (λ command.
-        ForSome (seen_of (R.state rig.old) File.Image) (λ image. ForSome (seen_of (R.state rig.old) File.Journal) (λ journal.
-        Ends (reply command image journal) (status_of (opening image journal)) (R.state rig.old) (R.state rig.new) result))) }
-    ensures complete { ForSome (command_of (map (λ s. string_bytes s) words.now)) (λ _. Quiet (R.state rig.old) (R.state rig.new) →
-        ForSome (seen_of (R.state rig.old) File.Image) (λ image. ForSome (seen_of (R.state rig.old) File.Journal) (λ journal.
-        (result ≡ status_of (opening image journal)) ⊎ (result ≡ 8)))) }
+    // At every moment, whatever a crash then leaves on image and journal opens again to the state that some prefix of the
+    // commands gives, the prefix holding every command whose reply had been said; what was said are those replies, a front of
+    // the next text, and nothing else; and each item of that state has the bytes that it had at the start. (Until opening has
+    // made both files durable, a crash leaves nothing that it couldn't have left at the start.)
+    ensures headline { ForSome (command_of (map (λ s. string_bytes s) words.now)) (λ command. (cs : List Step) (end : End) (said : List ℕ) (b : Begun) →
+        Asks command (S.input input.old).left cs end → Opening the_machine (R.state rig.old) said b →
+        Nothing R.Rig rig.old rig.new ⊎ From R.Rig rig.old rig.new (OpensToPrefix the_machine b cs (last_text end) said)) }
+    // What stands and was said at the end, by status.
+    ensures ends { ForSome (command_of (map (λ s. string_bytes s) words.now)) (λ command.
+        EndsWith command (R.state rig.old) (R.state rig.new) (S.input input.old).left (S.input input.new).left result) }
+    ensures void { result ≡ 0 → ForSome (seen_of (R.state rig.new) File.Journal) (λ journal. slot_of journal ≡ Void) }
+    ensures takes { ForSome (command_of (map (λ s. string_bytes s) words.now)) (λ command. Took command (S.input input.old).left (S.input input.new).left result) }
 
-    ensures status { IsStatus result }
-    ensures image_fault { result ≡ 4 → Rose (R.state rig.old).image_faults (R.state rig.new).image_faults }
-    ensures journal_fault { result ≡ 5 → Rose (R.state rig.old).journal_faults (R.state rig.new).journal_faults }
-    ensures output_fault { result ≡ 6 → Rose (R.state rig.old).output_faults (R.state rig.new).output_faults }
-
-    // Both files stay as they were, and at each moment of the run a crash leaves of them what it could leave at
-    // the start, while a first part of the text had been said.
-    ensures files { SameFiles (R.state rig.old) (R.state rig.new) }
-    ensures moments { ForSome (devices (R.state rig.old)) (λ all. Throughout R.Rig rig.old rig.new
-        (LeavesSaying all (said_by (command_of (map (λ s. string_bytes s) words.now)) all.image.seen all.journal.seen))) }
+    // A refusal is told exactly where there is one, but for a fault or want of memory.
+    ensures refused { result ≡ 2 → RefusedSo the_machine (R.state rig.old) (R.state rig.new) }
+    ensures refuses { ForSome (command_of (map (λ s. string_bytes s) words.now)) (λ _. (text : List ℕ) → RefusedWith (R.state rig.old) text →
+        Quiet (R.state rig.old) (R.state rig.new) (S.input input.old).faults (S.input input.new).faults → (result ≡ 2) ⊎ (result ≡ 8)) }
+    // Where the files open, the script ends well and no fault comes, all is done, or memory is wanting.
+    ensures complete { ForSome (command_of (map (λ s. string_bytes s) words.now)) (λ command. (said : List ℕ) (b : Begun) → Opening the_machine (R.state rig.old) said b →
+        EndsWell command (S.input input.old).left → Quiet (R.state rig.old) (R.state rig.new) (S.input input.old).faults (S.input input.new).faults → (result ≡ 0) ⊎ (result ≡ 8)) }
+    ensures causes { HasCauses (R.state rig.old) (R.state rig.new) (S.input input.old).faults (S.input input.new).faults result }
     ensures goes_on { GoesOn (R.state rig.old) (R.state rig.new) }
-    ensures input { S.input _input.new ≡ S.input _input.old }
 {
     match command_of(words) {
-        Some(command) => status_of(perform(alloc, rig, command)),
-        None => match say(rig, USAGE) {
-            Ok(()) => 1,
-            Err(_) => 6,
-        },
+        Some(command) => code_of(obey(alloc, command, rig, input)),
+        None => say_usage(rig),
     }
 }

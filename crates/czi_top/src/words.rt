@@ -10,6 +10,8 @@ pub(crate) enum Command {
     List,
     /// All that the image holds, and where it lies.
     Info,
+    /// The script that the input gives is to be run.
+    Edit,
 }
 
 /// Doesn't begin with a dash.
@@ -30,6 +32,8 @@ fn named(word: &str) -> Option<Command>
         Some(Command::List)
     } else if word == "info" {
         Some(Command::Info)
+    } else if word == "edit" {
+        Some(Command::Edit)
     } else {
         None
     }

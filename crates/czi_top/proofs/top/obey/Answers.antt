@@ -1,0 +1,32 @@
+use Rattle.czi_top.proofs.Ending.{quiet_alone}
+use Rattle.czi_top.proofs.top.obey.Goals as goal
+
+pub returns-in-List-clause-ends : goal.returns-in-List-clause-ends
+returns-in-List-clause-ends g c = rw c.in-List.is c.one.ensures.ends
+
+pub returns-in-List-clause-complete : goal.returns-in-List-clause-complete
+returns-in-List-clause-complete g c = λ said b h well q. c.one.ensures.complete said b h (quiet_alone q)
+
+pub returns-in-List-clause-refuses : goal.returns-in-List-clause-refuses
+returns-in-List-clause-refuses g c = λ text r q. c.one.ensures.refuses r.0 text r.1 r.2 (quiet_alone q)
+
+pub returns-in-Info-clause-ends : goal.returns-in-Info-clause-ends
+returns-in-Info-clause-ends g c = rw c.in-Info.is c.one-in-Info.ensures.ends
+
+pub returns-in-Info-clause-complete : goal.returns-in-Info-clause-complete
+returns-in-Info-clause-complete g c = λ said b h well q. c.one-in-Info.ensures.complete said b h (quiet_alone q)
+
+pub returns-in-Info-clause-refuses : goal.returns-in-Info-clause-refuses
+returns-in-Info-clause-refuses g c = λ text r q. c.one-in-Info.ensures.refuses r.0 text r.1 r.2 (quiet_alone q)
+
+pub returns-in-Edit-clause-ends : goal.returns-in-Edit-clause-ends
+returns-in-Edit-clause-ends g c = rw c.in-Edit.is (λ said b h cs end input told reads.
+    c.edit.ensures.ends cs end said b (record { input = input; told = told; reads = reads; opening = h }))
+
+pub returns-in-Edit-clause-complete : goal.returns-in-Edit-clause-complete
+returns-in-Edit-clause-complete g c = λ said b h well q.
+    let w = rw c.in-Edit.is at well in
+    c.edit.ensures.complete w.0 said b (record { input = w.1; told = w.2; reads = w.3; opening = h }) w.4 q
+
+pub returns-in-Edit-clause-refuses : goal.returns-in-Edit-clause-refuses
+returns-in-Edit-clause-refuses g c = λ text r q. c.edit.ensures.refuses r.0 text r.1 r.2 q
