@@ -111,9 +111,9 @@ no_some a e = cc
 held_whole : (t : Tile) → ForSome (held_of t) (λ s. IsWhole (span_of s))
 held_whole t = elim (cases_Bool (t.walked && is_aligned (span_of t.span))) [
   | inl e ↦ rw e (λ s is. subst (λ (z : CodeSpan). IsWhole (span_of z)) (some_same t.span s is) (
-    let even = both_true t.walked (is_aligned (span_of t.span)) e in
-    let both = aligned_is (span_of t.span) even.1 in
-    record { at = both.0; len = both.1; some = omega (arith, t.extent) }))
+      let even = both_true t.walked (is_aligned (span_of t.span)) e in
+      let both = aligned_is (span_of t.span) even.1 in
+      record { at = both.0; len = both.1; some = omega (arith, t.extent) }))
   | inr e ↦ rw e (λ s is. absurd (no_some s is))
 ]
 

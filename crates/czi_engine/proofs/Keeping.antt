@@ -73,8 +73,8 @@ pub during_edit : (start bytes other image journal said before : List ℕ) (live
     → StandsOn start other live' s' → KeepsItems start other s'.layout → after_edit s edit ≡ Ok s' → StandsOr (view_of bytes s high) other image journal × (said ≡ before) → DuringEdit start s edit before image journal said
 during_edit start bytes other image journal said before live live' s s' edit high on kept on' kept' goes sides = (
   ⊎_elim
-    (λ view. inl (view_opens_in start bytes image journal live s high on kept view))
-    (λ made. inr (subst (λ (z : State). OpensIn start image journal z) (sym (ap (or_before s) goes)) (has_opens start other image journal live' s' on' kept' made)))
-    sides.0,
+      (λ view. inl (view_opens_in start bytes image journal live s high on kept view))
+      (λ made. inr (subst (λ (z : State). OpensIn start image journal z) (sym (ap (or_before s) goes)) (has_opens start other image journal live' s' on' kept' made)))
+      sides.0,
   sides.1,
 )

@@ -97,7 +97,7 @@ pub taken_over : (x y z : Engine) (i : ℕ) (n : Next) → KeepsPlan x y → IsW
     → IsWithout i n.directory n.extents.items x.plan.length n.walk_end x.index z.index × (z.number ≡ one_more x.number)
 taken_over x y z i n kept w number = (
   subst (λ (v : Index). IsWithout i n.directory n.extents.items x.plan.length n.walk_end v z.index) kept.index
-  (subst (λ (p : EditPlan). IsWithout i n.directory n.extents.items p.length n.walk_end y.index z.index) kept.plan w),
+      (subst (λ (p : EditPlan). IsWithout i n.directory n.extents.items p.length n.walk_end y.index z.index) kept.plan w),
   number ∙ ap one_more kept.number,
 )
 

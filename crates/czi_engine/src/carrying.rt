@@ -84,7 +84,8 @@ impl Engine {
         ensures down { self.new.down ≡ self.old.down }
     {
         let length = self.plan.length;
-        self.index.remove_tile(i, next.directory, next.extents, length, next.walk_end);
+        self.index
+            .remove_tile(i, next.directory, next.extents, length, next.walk_end);
         self.map = next.map;
         self.edits = next.edits;
         self.number = self.number.saturating_add(1);

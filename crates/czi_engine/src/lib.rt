@@ -3,7 +3,6 @@
 #![tactic(auto)]
 
 ghost use Rattle.czi_engine.specs.Laws.{DocumentOpens, ItselfRests, RestsStands, HeldStays, AloneShows, WrittenHasBytes, CommitLeaves100, RemovalLeaves100, HolesAreHigh, StandsOutside, RecoveredOpens, ViewOpens, OpenedStands, MadeWrote, CommitStands, CommitOpens, RemovalStands, RemovalOpens, FreeInView, ZerosInView, PlaceInView, ReturnStands, ReturnOpens, CommitTouches, RemovalTouches, ReturnTouches};
-
 ghost use Rattle.czi_engine.specs.Removing.{RemovalIsStep, RefusalsAgree, RemovalHas};
 
 mod carrying;

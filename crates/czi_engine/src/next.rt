@@ -116,7 +116,14 @@ pub(crate) fn next_of(
     ensures { IfOk result (λ n. (span : Extent) (t : Tile) → slice_get index.now.tiles.items i ≡ Some t → FitsMap space.now plan.now span → IsNext index.now space.now edits.now t plan.now span n) }
 {
     let edits = edits_with(alloc, held_of(&index.tiles[i]), edits)?;
-    let mut map = map_after(alloc, space, &plan.used, &plan.freed, edits.len(), plan.length)?;
+    let mut map = map_after(
+        alloc,
+        space,
+        &plan.used,
+        &plan.freed,
+        edits.len(),
+        plan.length,
+    )?;
     let extents = map.extents().to_vec(alloc)?;
     hold_all(&edits, &mut map);
     Ok(Next {

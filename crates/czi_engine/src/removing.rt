@@ -38,7 +38,14 @@ impl Engine {
     {
         self.region.reset();
         self.plan.clear();
-        plan_remove_at(alloc, &self.index, &self.map, i, &mut self.region, &mut self.plan)?;
+        plan_remove_at(
+            alloc,
+            &self.index,
+            &self.map,
+            i,
+            &mut self.region,
+            &mut self.plan,
+        )?;
         let next = next_of(alloc, &self.index, &self.map, &self.edits, &self.plan, i)?;
         Ok(next)
     }
