@@ -26,7 +26,7 @@ module _ {D : Type 0} (rig : Ghosts D) (x : Engine) (old new : D) (said : List �
       let t : ℕ = (rig.state old).moment in
       ⊎_elim
       (λ was. let m = may_leave (rig.state old) h.now h.known i j o (only old i j o (is_honest (rig.state old) h.now h.known) was) in
-        (opens_whatever x h.now.image h.now.journal b h.stands i j m.image_is m.journal_is, m.said_is ∙ h.said_is))
+      (opens_whatever x h.now.image h.now.journal b h.stands i j m.image_is m.journal_is, m.said_is ∙ h.said_is))
       (λ p. p)
       (all.each t i j o (omega arith) (counts new t i j o all.later (leaves_now (rig.state new) now is i j o left)))
 

@@ -57,11 +57,7 @@ fn push_rule(text: &mut Vec<u8>, refusal: &ImageRefusal) -> Result<(), AllocErro
 
 /// Appends the line of a journal of another image.
 #[tactic(auto, unfolding(crate::specs::Refusals::cause_text))]
-fn push_foreign(
-    text: &mut Vec<u8>,
-    journal: &[u8; 16],
-    image: &[u8; 16],
-) -> Result<(), AllocError>
+fn push_foreign(text: &mut Vec<u8>, journal: &[u8; 16], image: &[u8; 16]) -> Result<(), AllocError>
     ensures { OnOk result (text.new.items ≡ text.old.items ++ cause_text (of_another journal.now image.now)) }
 {
     text.extend_from_slice(b"refused foreign ")?;

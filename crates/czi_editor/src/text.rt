@@ -36,7 +36,11 @@ pub(crate) fn push_number(text: &mut Vec<u8>, label: &[u8], number: u64) -> Resu
 
 /// Appends a line of a label and a number.
 #[tactic(auto, unfolding(czi_report::specs::Text::number_line))]
-pub(crate) fn push_number_line(text: &mut Vec<u8>, label: &[u8], number: u64) -> Result<(), AllocError>
+pub(crate) fn push_number_line(
+    text: &mut Vec<u8>,
+    label: &[u8],
+    number: u64,
+) -> Result<(), AllocError>
     ensures { OnOk result (text.new.items ≡ text.old.items ++ number_line label.now number) }
 {
     push_number(text, label, number)?;

@@ -28,7 +28,7 @@ pub returns-in-Err-clause-replied : goal.returns-in-Err-clause-replied
 returns-in-Err-clause-replied g c = on_ok_weaker c.push_no.result (λ r said b h.
     let dims = dims_of c.args.dims.now in
     let refused = if_some (refusal_of c.in-Err.error) r.0 (λ (x : Refusal). after_edit b.state (remove dims) ≡ Err x) r.1
-      (c.in-Err.ensures.refused h.now.image.seen (known_seen (g.R.Rig.state c.args.rig.now) Image h.now h.known) b.start h.stands.live b.state h.stands.has) in
+    (c.in-Err.ensures.refused h.now.image.seen (known_seen (g.R.Rig.state c.args.rig.now) Image h.now h.known) b.start h.stands.live b.state h.stands.has) in
     r.2 ∙ (ap (λ (z : List ℕ). z ++ no_line r.0) c.in-Ok.ensures.items ∙ ap (λ (z : List ℕ). c.args.reply.now.items ++ z) (no_is b.state dims r.0 refused))) c.push_no.ensures.said
 
 pub returns-in-Err-clause-stands : goal.returns-in-Err-clause-stands
@@ -36,7 +36,7 @@ returns-in-Err-clause-stands g c = on_ok_weaker c.push_no.result (λ r said b h.
     let old = g.R.Rig.state c.args.rig.now in
     let dims = dims_of c.args.dims.now in
     let refused = if_some (refusal_of c.in-Err.error) r.0 (λ (x : Refusal). after_edit b.state (remove dims) ≡ Err x) r.1
-      (c.in-Err.ensures.refused h.now.image.seen (known_seen old Image h.now h.known) b.start h.stands.live b.state h.stands.has) in
+    (c.in-Err.ensures.refused h.now.image.seen (known_seen old Image h.now h.known) b.start h.stands.live b.state h.stands.has) in
     let kept = c.in-Err.ensures.untouched (no_device c.in-Err.error r.0 r.1) in
     refused_stands c.args.engine.now c.remove.new.self old (g.R.Rig.state c.remove.new.rig) said b dims h r.0 refused kept.1 kept.0.same) c.push_no.ensures.said
 

@@ -7,8 +7,7 @@ pub returns-in-Ok-clause-opens : goal.returns-in-Ok-clause-opens
 returns-in-Ok-clause-opens g c said b h =
     let old = g.R.Rig.state c.args.rig.now in
     let new = g.R.Rig.state c.open.new.rig in
-    let o = c.in-Ok.ensures in
-    (
+    let o = c.in-Ok.ensures in (
       opens_from g.R.Rig c.args.rig.now c.open.new.rig said b h o.moments,
       opened_stands c.in-Ok.engine old new said b h o.recovered o.fresh o.no_edits.1 o.stands o.said,
     )
@@ -22,8 +21,7 @@ returns-in-Err-clause-opens g c said b h =
     let new = g.R.Rig.state c.open.new.rig in
     let image = h.now.image.seen in
     let journal = h.now.journal.seen in
-    let told = c.in-Err.ensures.refused image (known_seen old Image h.now h.known) journal (known_seen old Journal h.now h.known) in
-    (
+    let told = c.in-Err.ensures.refused image (known_seen old Image h.now h.known) journal (known_seen old Journal h.now h.known) in (
       opens_so c.in-Err.error c.stop_of.result new image journal b c.stop_of.ensures told h.begins,
       meanwhile g.R.Rig c.args.rig.now c.open.new.rig said b h c.in-Err.error c.in-Err.ensures.meanwhile,
     )

@@ -13,15 +13,14 @@ returns-in-Remove-clause-ok g c = rw c.in-Remove.is (both_ok c.remove.result (λ
 
 pub returns-in-List-clause-ok : goal.returns-in-List-clause-ok
 returns-in-List-clause-ok g c = rw c.in-List.is (on_ok_weaker c.push_list.result (λ says said b h. (
-    says h.stands.live h.stands.has.holds ∙ ap (λ (z : List ℕ). c.args.reply.now.items ++ z) (lists_state h.now.image.seen h.stands.live b.state h.stands.has.stands.lies),
-    h,
-  )) c.push_list.ensures.said)
+  says h.stands.live h.stands.has.holds ∙ ap (λ (z : List ℕ). c.args.reply.now.items ++ z) (lists_state h.now.image.seen h.stands.live b.state h.stands.has.stands.lies),
+  h,
+)) c.push_list.ensures.said)
 
 pub returns-in-Info-clause-ok : goal.returns-in-Info-clause-ok
 returns-in-Info-clause-ok g c = rw c.in-Info.is (on_ok_weaker c.push_info.result (λ says said b h.
-    let lies = h.stands.has.stands.lies in
-    (
+    let lies = h.stands.has.stands.lies in (
       says h.stands.live h.stands.has.holds ∙ (ap (λ (n : ℕ). c.args.reply.now.items ++ info_text n h.stands.live) (h.stands.has.lies.length ∙ lies.length)
-        ∙ ap (λ (z : List ℕ). c.args.reply.now.items ++ z) (details_state h.now.image.seen h.stands.live b.state lies)),
+          ∙ ap (λ (z : List ℕ). c.args.reply.now.items ++ z) (details_state h.now.image.seen h.stands.live b.state lies)),
       h,
     )) c.push_info.ensures.said)
