@@ -1,6 +1,6 @@
 //! The top call of the program.
 
-ghost use Rattle.std.specs.Prelude.{◌≡◌, ◌≢◌, ◌⊎◌, ◌++◌, ℕ, List, Some, None, map, take, length, string_bytes, OnOk};
+ghost use Rattle.std.specs.Prelude.{◌≡◌, ◌≢◌, ◌⊎◌, ℕ, List, None, map, string_bytes};
 ghost use Rattle.std.specs.Option.{ForSome};
 ghost use Rattle.czi_journal.specs.Journals.{slot_of};
 ghost use Rattle.czi_links.specs.Reading.{Void};
@@ -12,11 +12,10 @@ ghost use Rattle.czi_session.specs.Causes.{EndsWithCause};
 ghost use Rattle.czi_session.specs.Course.{From, Nothing, Opening, OpensToPrefix};
 ghost use Rattle.czi_session.specs.Ends.{Answers, Quiet, RefusedSo};
 ghost use Rattle.czi_session.specs.Text.{last_text};
-ghost use Rattle.czi_session.specs.declared.stop.Ended.TheVariants as ends;
 ghost use Rattle.czi_editor.specs.Machine.{Begun, the_machine};
-ghost use Rattle.czi_top.specs.Words.{Command as Asked, command_of};
+ghost use Rattle.czi_top.specs.Words.{command_of};
 ghost use Rattle.czi_top.specs.View.{command_view};
-ghost use Rattle.czi_top.specs.Run.{Asks, EndsAt, EndsWell, EndsWith, HasCauses, IsAlone, RefusedWith, Says, SaysUsage, TakesFor, Took, code_of, usage};
+ghost use Rattle.czi_top.specs.Run.{Asks, EndsAt, EndsWell, EndsWith, HasCauses, IsAlone, RefusedWith, SaysUsage, TakesFor, Took, code_of, usage};
 
 use crate::words::{Command, command_of};
 use czi_editor::ImageEditor;
