@@ -5,3 +5,4 @@ pub mod Midway
 pub mod Spoken
 mod Trials
 pub mod Refusing
+pub mod Kept

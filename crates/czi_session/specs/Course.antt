@@ -8,13 +8,14 @@ use Rattle.czi_rig.specs.declared.rig.Rig.{Ghosts}
 use Rattle.czi_rig.specs.Moments.{Devices, devices, Throughout, Always}
 
 -- What an editor is about: its states; which of them an image and a journal that a crash leaves open to; at which of them a
--- run over an image and a journal begins; which pairs are refused and with what text; which journals are void; what a
--- command makes of a state, and its reply there.
+-- run over an image and a journal begins; which pairs are refused and with what text; which pairs stand for what an earlier
+-- one stood for; which journals are void; what a command makes of a state, and its reply there.
 pub record Model : Type 1 where
   pub Document : Type 0
   pub opens : List ℕ → List ℕ → Document → Type 0
   pub begins : List ℕ → List ℕ → Document → Type 0
   pub refuses : List ℕ → List ℕ → List ℕ → Type 0
+  pub keeps : (image journal now_image now_journal : List ℕ) → Type 0
   pub void : List ℕ → Type 0
   pub after : Document → Command → Document
   pub reply : Document → Command → List ℕ
@@ -125,3 +126,12 @@ OpensNow m on = (image journal : Disk) (s : m.Document) → on image journal s �
 -- what reads give isn't refused
 abbrev pub IsUnrefused : Model → State → Type 0
 IsUnrefused m state = (all : Devices) (text : List ℕ) → devices state ≡ Some all → m.refuses all.image.seen all.journal.seen text → ⊥
+
+-- what a crash leaves stands for what these files stood for
+abbrev pub KeepsFiles : Model → Devices → Instant
+KeepsFiles m all image journal said = m.keeps all.image.seen all.journal.seen image journal
+
+-- Files that are refused are kept: until they are durable nothing new is left, and from then on what stands for the same.
+abbrev pub KeepsRefused : {D : Type 0} → Ghosts D → D → D → Model → Type 0
+KeepsRefused rig old new m = (all : Devices) (text : List ℕ) → devices (rig.state old) ≡ Some all → m.refuses all.image.seen all.journal.seen text
+    → Nothing rig old new ⊎ From rig old new (KeepsFiles m all)

@@ -2,6 +2,7 @@
 use Rattle.std.specs.Prelude.{◌≡◌, ◌⊎◌, ℕ, ◌+◌, ◌<◌, ◌≤◌, ◌^◌, List, [], ◌∷◌, ◌++◌, length, take, drop, Option, Some, Result, Ok, Err}
 use Rattle.std.specs.Option.{ForSome}
 use Rattle.std.specs.List.{concat}
+use Rattle.czi_rig.specs.declared.rig.Rig.{Ghosts}
 use Rattle.czi_rig.specs.Disk.{Disk}
 use Rattle.czi_rig.specs.State.{State}
 use Rattle.czi_rig.specs.Moments.{Devices, devices}
@@ -17,12 +18,17 @@ use Rattle.czi_session.specs.declared.stop.Stop.TheVariants.{Script, Image, Jour
 use Rattle.czi_session.specs.declared.stop.Ended.{Ended}
 use Rattle.czi_session.specs.declared.stop.Ended.TheVariants.{Done, Refused, Stopped}
 use Rattle.czi_session.specs.Text.{fault_line}
-use Rattle.czi_session.specs.Course.{Model, Stands, OpensWhatever, state_after, replies}
+use Rattle.czi_session.specs.Course.{From, KeepsFiles, Model, Nothing, Stands, OpensWhatever, state_after, replies}
 
 -- a pair that opens isn't refused
 abbrev pub OpensSo : OpenStop → Type 0
 OpensSo (RefusedOf text) = ⊥
 OpensSo (StoppedOf stop) = Unit {0}
+
+-- Files that are refused are kept. Where that is told they were made durable; a device may fail before.
+abbrev pub IsKept : {D : Type 0} → Ghosts D → D → D → Model → Devices → OpenStop → Type 0
+IsKept rig old new m all (RefusedOf text) = From rig old new (KeepsFiles m all)
+IsKept rig old new m all (StoppedOf stop) = Nothing rig old new ⊎ From rig old new (KeepsFiles m all)
 
 -- a refusal is that of the pair
 abbrev pub Refuses : Model → List ℕ → List ℕ → OpenStop → Type 0

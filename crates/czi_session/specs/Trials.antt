@@ -16,6 +16,7 @@ counting = record {
   opens = λ image journal s. length image ≡ s;
   begins = λ image journal s. length image ≡ s;
   refuses = λ image journal text. ⊥;
+  keeps = λ image journal now_image now_journal. Unit {0};
   void = λ journal. Unit {0};
   after = λ s c. s + 1;
   reply = λ s c. ok_line;

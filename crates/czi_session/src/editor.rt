@@ -10,7 +10,7 @@ ghost use Rattle.czi_script.specs.Script.{Command as Cmd};
 ghost use Rattle.czi_script.specs.View.{command_of};
 ghost use Rattle.czi_session.specs.Course.{Model, Stands, EitherSide, Open, Opening, OpensWhatever, From, IsUnrefused, Nothing};
 ghost use Rattle.czi_session.specs.Causes.{EditorStops, OpenStops};
-ghost use Rattle.czi_session.specs.Ends.{Refuses, OpensSo};
+ghost use Rattle.czi_session.specs.Ends.{IsKept, Refuses, OpensSo};
 
 use crate::{EditorStop, OpenStop};
 use czi_rig::{Failed, File, Rig};
@@ -34,7 +34,7 @@ pub trait Editor: Drop {
     /// # Errors
     ///
     /// `Refused` where the pair is refused, with the text that says why. Else it is a fault of a file whose count rose,
-    /// or want of memory.
+    /// or want of memory. Files that are refused are kept: what a crash leaves stands for what they stood for.
     fn open<R: Rig>(alloc: Global, rig: &mut R) -> Result<Self, OpenStop>
         ensures opens { (said : List ℕ) (s : model.Document) → Opening model (R.state rig.old) said s → MatchResult result
             (λ editor. From R.Rig rig.old rig.new (Open model s said) × Stands model (stands editor) (R.state rig.new) said s)
@@ -42,6 +42,7 @@ pub trait Editor: Drop {
         ensures ready { IfOk result (λ editor. ready editor (R.state rig.new)) }
         ensures unrefused { OnOk result (IsUnrefused model (R.state rig.old)) }
         ensures refused { IfErr result (λ stop. (all : Devices) → devices (R.state rig.old) ≡ Option.Some all → Refuses model all.image.seen all.journal.seen stop) }
+        ensures kept { IfErr result (λ stop. (all : Devices) (text : List ℕ) → devices (R.state rig.old) ≡ Option.Some all → model.refuses all.image.seen all.journal.seen text → IsKept R.Rig rig.old rig.new model all stop) }
         ensures said { (R.state rig.new).said ≡ (R.state rig.old).said }
         ensures goes_on { GoesOn (R.state rig.old) (R.state rig.new) }
         ensures cause { IfErr result (λ stop. OpenStops stop (R.state rig.old) (R.state rig.new)) };

@@ -4,9 +4,9 @@ ghost use Rattle.std.specs.Prelude.{◌≡◌, ◌⊎◌, ◌++◌, List, ℕ, O
 ghost use Rattle.std.specs.Option.{ForSome};
 ghost use Rattle.czi_rig.specs.State.{seen_of};
 ghost use Rattle.czi_rig.specs.Passes.{GoesOn, Rose};
-ghost use Rattle.czi_rig.specs.Moments.{Throughout, Devices, devices};
+ghost use Rattle.czi_rig.specs.Moments.{Throughout, Devices, LeavesSaying, devices};
 ghost use Rattle.czi_script.specs.View.{command_of};
-ghost use Rattle.czi_session.specs.Course.{Stands, Open, Opening, OpensWhatever, From, IsUnrefused, Nothing, WithinStep, WhileSaid};
+ghost use Rattle.czi_session.specs.Course.{KeepsRefused, Stands, Open, Opening, OpensWhatever, From, IsUnrefused, Nothing, WithinStep, WhileSaid};
 ghost use Rattle.czi_session.specs.Causes.{StepCauses, OpenedCauses};
 ghost use Rattle.czi_session.specs.Ends.{StepStops, TextStops, TextCauses, OpeningEnds, RefusedSo};
 ghost use Rattle.czi_session.specs.Text.{fault_line};
@@ -21,6 +21,7 @@ use std::alloc::Global;
 /// Says why a pair is refused.
 fn say_refusal<R: Rig>(rig: &mut R, text: &[u8]) -> Ended
     ensures said { result ≡ Ended.Refused → (said : List ℕ) → (R.state rig.old).said ≡ Option.Some said → (R.state rig.new).said ≡ Option.Some (said ++ text.now) }
+    ensures moments { ForSome (devices (R.state rig.old)) (λ all. Throughout R.Rig rig.old rig.new (LeavesSaying all text.now)) }
     ensures goes_on { GoesOn (R.state rig.old) (R.state rig.new) }
     ensures cause { OpenedCauses result (R.state rig.old) (R.state rig.new) }
 {
@@ -38,6 +39,7 @@ pub(crate) fn opened<E: Editor, R: Rig>(alloc: Global, rig: &mut R) -> Result<E,
     ensures ready { IfOk result (λ editor. E.ready editor (R.state rig.new)) }
     ensures unrefused { OnOk result (IsUnrefused E.model (R.state rig.old)) }
     ensures refused { IfErr result (λ ended. ended ≡ Ended.Refused → RefusedSo E.model (R.state rig.old) (R.state rig.new)) }
+    ensures kept { IfErr result (λ _. KeepsRefused R.Rig rig.old rig.new E.model) }
     ensures goes_on { GoesOn (R.state rig.old) (R.state rig.new) }
     ensures cause { IfErr result (λ ended. OpenedCauses ended (R.state rig.old) (R.state rig.new)) }
 {

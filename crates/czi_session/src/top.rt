@@ -7,7 +7,7 @@ ghost use Rattle.czi_rig.specs.Passes.{GoesOn};
 ghost use Rattle.czi_rig.specs.Moments.{Devices, Throughout, devices};
 ghost use Rattle.czi_script.specs.Script.{Command as Cmd, End};
 ghost use Rattle.czi_script.specs.View.{command_of};
-ghost use Rattle.czi_session.specs.Course.{Starts, Begins, IsUnrefused, Opening, Nothing, From, Stands, OpensToPrefix, OpensWhatever};
+ghost use Rattle.czi_session.specs.Course.{KeepsRefused, Starts, Begins, IsUnrefused, Opening, Nothing, From, Stands, OpensToPrefix, OpensWhatever};
 ghost use Rattle.czi_session.specs.Text.{last_text};
 ghost use Rattle.czi_session.specs.Causes.{HasCauseIn, StepCauses, EndsAlone, EndsUnopened, EndsWithCause, OpenedCauses};
 ghost use Rattle.czi_session.specs.Ends.{Whole, RunStops, EndsSo, OneStops, OneEnds, RefusedSo, Takes, most_taken, most_of, Quiet, Answers};
@@ -80,6 +80,7 @@ fn edit_all<E: Editor, R: Rig, S: Source>(alloc: Global, rig: &mut R, input: &mu
         EndsSo E.model (R.state rig.new) (S.input input.new).left s cs end said h.input result }
     ensures void { result ≡ Ended.Done → ForSome (seen_of (R.state rig.new) File.Journal) E.model.void }
     ensures refused { result ≡ Ended.Refused → RefusedSo E.model (R.state rig.old) (R.state rig.new) }
+    ensures kept { KeepsRefused R.Rig rig.old rig.new E.model }
     ensures refuses { IsUnrefused E.model (R.state rig.old) ⊎ EndsUnopened result }
     ensures takes { Takes (S.input input.old).left (S.input input.new).left (most_of result) }
     ensures goes_on { GoesOn (R.state rig.old) (R.state rig.new) }
@@ -102,6 +103,7 @@ fn one_alone<E: Editor, R: Rig>(alloc: Global, rig: &mut R, command: &Command) -
     ensures ends { (said : List ℕ) (s : E.model.Document) → Opening E.model (R.state rig.old) said s → OneEnds E.model (R.state rig.new) s (command_of command.now) said result }
     ensures void { result ≡ Ended.Done → ForSome (seen_of (R.state rig.new) File.Journal) E.model.void }
     ensures refused { result ≡ Ended.Refused → RefusedSo E.model (R.state rig.old) (R.state rig.new) }
+    ensures kept { KeepsRefused R.Rig rig.old rig.new E.model }
     ensures refuses { IsUnrefused E.model (R.state rig.old) ⊎ EndsUnopened result }
     ensures alone { EndsAlone result }
     ensures goes_on { GoesOn (R.state rig.old) (R.state rig.new) }
@@ -131,6 +133,8 @@ pub fn edit<E: Editor, R: Rig, S: Source>(alloc: Global, rig: &mut R, input: &mu
         EndsSo E.model (R.state rig.new) (S.input input.new).left s cs end said h.input result }
     ensures void { result ≡ Ended.Done → ForSome (seen_of (R.state rig.new) File.Journal) E.model.void }
     ensures refused { result ≡ Ended.Refused → RefusedSo E.model (R.state rig.old) (R.state rig.new) }
+    // Files that are refused are kept.
+    ensures kept { KeepsRefused R.Rig rig.old rig.new E.model }
     ensures takes { Takes (S.input input.old).left (S.input input.new).left (most_of result) }
     ensures goes_on { GoesOn (R.state rig.old) (R.state rig.new) }
     ensures later { (S.input input.old).faults ≤ (S.input input.new).faults }
@@ -152,6 +156,7 @@ pub fn one<E: Editor, R: Rig>(alloc: Global, rig: &mut R, command: &Command) -> 
     ensures ends { (said : List ℕ) (s : E.model.Document) → Opening E.model (R.state rig.old) said s → OneEnds E.model (R.state rig.new) s (command_of command.now) said result }
     ensures void { result ≡ Ended.Done → ForSome (seen_of (R.state rig.new) File.Journal) E.model.void }
     ensures refused { result ≡ Ended.Refused → RefusedSo E.model (R.state rig.old) (R.state rig.new) }
+    ensures kept { KeepsRefused R.Rig rig.old rig.new E.model }
     ensures goes_on { GoesOn (R.state rig.old) (R.state rig.new) }
     ensures cause { EndsWithCause result (R.state rig.old) (R.state rig.new) 0 0 }
     ensures alone { EndsAlone result }
