@@ -1,6 +1,7 @@
 -- Opening an engine, as a session takes it.
 use Rattle.std.proofs.Common.{◌≡◌, ◌⊎◌, ℕ, List, Some, Err, refl, sym, ap, ◌∙◌, subst, inl, inr, ⊎_elim}
 use Rattle.std.specs.Option.{ForSome}
+use Rattle.std.proofs.lemmas.Option.{none-some}
 use Rattle.std.specs.Prelude.{option_map}
 use Rattle.czi_image.specs.Holds.{IsSettled}
 use Rattle.czi_image.proofs.Settled.{whole_settled}
@@ -19,8 +20,8 @@ use Rattle.czi_rig.specs.Moments.{Devices, devices, all_of}
 use Rattle.czi_rig.proofs.Known.{known_said, known_seen}
 use Rattle.czi_rig.proofs.Runs.{weaker}
 use Rattle.czi_session.specs.Causes.{OpenStops}
-use Rattle.czi_session.specs.Course.{From, IsUnrefused, Nothing, Open, Opening, Stands}
-use Rattle.czi_session.specs.Ends.{OpensSo, Refuses}
+use Rattle.czi_session.specs.Course.{From, IsUnrefused, KeepsFiles, Nothing, Open, Opening, Stands}
+use Rattle.czi_session.specs.Ends.{IsKept, OpensSo, Refuses}
 use Rattle.czi_session.specs.declared.stop.EditorStop.TheVariants.{Image as ImageStops, Journal as JournalStops, Memory as MemoryStops}
 use Rattle.czi_session.specs.declared.stop.OpenStop.{OpenStop}
 use Rattle.czi_session.specs.declared.stop.OpenStop.TheVariants.{Refused, Stopped}
@@ -115,3 +116,37 @@ unrefused x old new recovered on all text is refused =
     let some = on.state r.bytes (ap (option_map (λ (d : Disk). d.seen)) r.synced.image_is) in
     let o = (has_opens some.start r.bytes image journal some.live some.state some.has.stands some.has.kept r.recovered).opens in
     not_both image journal some.state.document refused.cause (record { bytes = o.bytes; recovered = o.recovered; shows = o.shows; idle = o.whole }) refused.refused
+
+module _ {D : Type 0} (rig : Ghosts D) (old new : D) (all : Devices) where
+  from_kept : opening.From rig old new (Stays all) → From rig old new (KeepsFiles the_machine all)
+  from_kept from = record {
+    then = from.then;
+    before = from.before;
+    after = weaker rig (λ i j o stays. stays.0) from.after;
+    always = λ i j o left. (from.always i j o left).0;
+  }
+
+  stopped_kept : (error : OpenError) → OpensFrom rig old new (Stays all) (Err error) → Nothing rig old new ⊎ From rig old new (KeepsFiles the_machine all)
+  stopped_kept (JournalVersion version) from = inr (from_kept from)
+  stopped_kept (BadJournal place) from = inr (from_kept from)
+  stopped_kept (ImageShort have need) from = inr (from_kept from)
+  stopped_kept (ForeignJournal journal image) from = inr (from_kept from)
+  stopped_kept (RefusedOf refusal) from = inr (from_kept from)
+  stopped_kept ImageDevice from = ⊎_elim (λ none. inl none) (λ some. inr (from_kept some)) from
+  stopped_kept JournalDevice from = ⊎_elim (λ none. inl none) (λ some. inr (from_kept some)) from
+  stopped_kept MemoryOf from = inr (from_kept from)
+
+  refused_kept : (error : OpenError) (cause : Cause) → cause_of error ≡ Some cause → OpensFrom rig old new (Stays all) (Err error) → From rig old new (KeepsFiles the_machine all)
+  refused_kept (JournalVersion version) cause is from = from_kept from
+  refused_kept (BadJournal place) cause is from = from_kept from
+  refused_kept (ImageShort have need) cause is from = from_kept from
+  refused_kept (ForeignJournal journal image) cause is from = from_kept from
+  refused_kept (RefusedOf refusal) cause is from = from_kept from
+  refused_kept ImageDevice cause is from = absurd (none-some cause is)
+  refused_kept JournalDevice cause is from = absurd (none-some cause is)
+  refused_kept MemoryOf cause is from = absurd (none-some cause is)
+
+  -- an opening that answers an error keeps the files
+  pub kept : (error : OpenError) (stop : OpenStop) → Tells error stop → OpensFrom rig old new (Stays all) (Err error) → IsKept rig old new the_machine all stop
+  kept error (Refused text) tells from = refused_kept error tells.0 tells.1 from
+  kept error (Stopped stop) tells from = stopped_kept error from

@@ -5,6 +5,7 @@ use Rattle.czi_format.specs.Live.{Live, update_pending}
 use Rattle.czi_journal.specs.Journals.{slot_of}
 use Rattle.czi_links.specs.Reading.{Void}
 use Rattle.czi_machine.specs.State.{State as MachineState}
+use Rattle.czi_opening.specs.Course.{StandsAs}
 use Rattle.czi_opening.specs.Opens.{Cause, IsRefusedBy}
 use Rattle.czi_rig.specs.Disk.{Disk, IsAtRest}
 use Rattle.czi_rig.specs.State.{State}
@@ -38,14 +39,15 @@ pub record IsRefused (image journal text : List ℕ) : Type 0 where
 abbrev pub opens_in : List ℕ → List ℕ → Begun → Type 0
 opens_in image journal b = OpensIn b.start image journal b.state
 
--- The states, which pairs of files a run begins at and opens to, which are refused and with what line, what a command makes of a
--- state, and its reply.
+-- The states, which pairs of files a run begins at and opens to, which are refused and with what line, which stand for what an
+-- earlier pair stood for, what a command makes of a state, and its reply.
 abbrev pub the_machine : Model
 the_machine = record {
   Document = Begun;
   begins = Begins;
   opens = opens_in;
   refuses = IsRefused;
+  keeps = StandsAs;
   void = λ journal. slot_of journal ≡ Void;
   after = λ b c. record { start = b.start; state = after b.state c };
   reply = λ b c. reply b.state c;

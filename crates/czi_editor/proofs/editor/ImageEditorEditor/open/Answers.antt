@@ -1,6 +1,6 @@
 use Rattle.czi_rig.specs.declared.file.File.TheVariants.{Image, Journal}
 use Rattle.czi_rig.proofs.Known.{known_seen}
-use Rattle.czi_editor.proofs.Opening.{meanwhile, opened_stands, opens_from, opens_so, refuses, unrefused}
+use Rattle.czi_editor.proofs.Opening.{kept, meanwhile, opened_stands, opens_from, opens_so, refuses, unrefused}
 use Rattle.czi_editor.proofs.editor.ImageEditorEditor.open.Goals as goal
 
 pub returns-in-Ok-clause-opens : goal.returns-in-Ok-clause-opens
@@ -32,3 +32,6 @@ returns-in-Err-clause-refused g c all is =
     let image = all.image.seen in
     let journal = all.journal.seen in
     refuses c.in-Err.error c.stop_of.result (g.R.Rig.state c.open.new.rig) image journal c.stop_of.ensures (c.in-Err.ensures.refused image (known_seen old Image all is) journal (known_seen old Journal all is))
+
+pub returns-in-Err-clause-kept : goal.returns-in-Err-clause-kept
+returns-in-Err-clause-kept g c all text is refused = kept g.R.Rig c.args.rig.now c.open.new.rig all c.in-Err.error c.stop_of.result c.stop_of.ensures (c.in-Err.ensures.meanwhile all is)
