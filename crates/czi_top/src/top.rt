@@ -9,7 +9,7 @@ ghost use Rattle.czi_rig.specs.Passes.{GoesOn, Rose};
 ghost use Rattle.czi_rig.specs.Moments.{devices, Throughout, LeavesSaying};
 ghost use Rattle.czi_script.specs.Script.{Command as Step, End};
 ghost use Rattle.czi_session.specs.Causes.{EndsWithCause};
-ghost use Rattle.czi_session.specs.Course.{From, Nothing, Opening, OpensToPrefix};
+ghost use Rattle.czi_session.specs.Course.{From, KeepsRefused, Nothing, Opening, OpensToPrefix};
 ghost use Rattle.czi_session.specs.Ends.{Answers, Quiet, RefusedSo};
 ghost use Rattle.czi_session.specs.Text.{last_text};
 ghost use Rattle.czi_editor.specs.Machine.{Begun, the_machine};
@@ -47,6 +47,7 @@ fn obey<R: Rig, S: Source>(alloc: Global, command: Command, rig: &mut R, input: 
     ensures ends { (said : List ℕ) (b : Begun) → Opening the_machine (R.state rig.old) said b → EndsAt (command_view command) (R.state rig.new) (S.input input.old).left (S.input input.new).left b said result }
     ensures void { result ≡ Ended.Done → ForSome (seen_of (R.state rig.new) File.Journal) (λ journal. slot_of journal ≡ Void) }
     ensures refused { result ≡ Ended.Refused → RefusedSo the_machine (R.state rig.old) (R.state rig.new) }
+    ensures kept { KeepsRefused R.Rig rig.old rig.new the_machine }
     ensures complete { (said : List ℕ) (b : Begun) → Opening the_machine (R.state rig.old) said b → EndsWell (command_view command) (S.input input.old).left →
         Quiet (R.state rig.old) (R.state rig.new) (S.input input.old).faults (S.input input.new).faults → Answers Ended.Done result }
     ensures refuses { (text : List ℕ) → RefusedWith (R.state rig.old) text → Quiet (R.state rig.old) (R.state rig.new) (S.input input.old).faults (S.input input.new).faults → Answers Ended.Refused result }
@@ -111,6 +112,8 @@ pub fn run<R: Rig, S: Source>(alloc: Global, words: &[String], rig: &mut R, inpu
     ensures refused { result ≡ 2 → RefusedSo the_machine (R.state rig.old) (R.state rig.new) }
     ensures refuses { ForSome (command_of (map (λ s. string_bytes s) words.now)) (λ _. (text : List ℕ) → RefusedWith (R.state rig.old) text →
         Quiet (R.state rig.old) (R.state rig.new) (S.input input.old).faults (S.input input.new).faults → (result ≡ 2) ⊎ (result ≡ 8)) }
+    // Files that are refused are kept: until they are durable nothing new is left, and from then on what stands for the same.
+    ensures kept { ForSome (command_of (map (λ s. string_bytes s) words.now)) (λ _. KeepsRefused R.Rig rig.old rig.new the_machine) }
     // Where the files open, the script ends well and no fault comes, all is done, or memory is wanting.
     ensures complete { ForSome (command_of (map (λ s. string_bytes s) words.now)) (λ command. (said : List ℕ) (b : Begun) → Opening the_machine (R.state rig.old) said b →
         EndsWell command (S.input input.old).left → Quiet (R.state rig.old) (R.state rig.new) (S.input input.old).faults (S.input input.new).faults → (result ≡ 0) ⊎ (result ≡ 8)) }
