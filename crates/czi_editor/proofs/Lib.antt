@@ -1,3 +1,4 @@
 pub mod Editing
 pub mod Opening
 pub mod Sealing
+pub mod Beginning

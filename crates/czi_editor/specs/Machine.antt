@@ -1,12 +1,13 @@
 -- The machine of edits over the files of an image, as a session runs it.
-use Rattle.std.specs.Prelude.{◌≡◌, ℕ, pos, List, IsFalse}
+use Rattle.std.specs.Prelude.{◌≡◌, ◌⊎◌, ℕ, pos, List, IsFalse}
 use Rattle.czi_format.specs.Bytes.{IsBytes}
+use Rattle.czi_format.specs.Document.{Document}
 use Rattle.czi_format.specs.Live.{Live, update_pending}
 use Rattle.czi_journal.specs.Journals.{slot_of}
 use Rattle.czi_links.specs.Reading.{Void}
 use Rattle.czi_machine.specs.State.{State as MachineState}
 use Rattle.czi_opening.specs.Course.{StandsAs}
-use Rattle.czi_opening.specs.Opens.{Cause, IsRefusedBy}
+use Rattle.czi_opening.specs.Opens.{Cause, IsRefusedBy, Opens}
 use Rattle.czi_rig.specs.Disk.{Disk, IsAtRest}
 use Rattle.czi_rig.specs.State.{State}
 use Rattle.czi_session.specs.Course.{Model}
@@ -30,11 +31,19 @@ pub record Begins (image journal : List ℕ) (b : Begun) : Type 0 where
   pub whole : update_pending b.start ≡ pos 0
   pub fresh : IsFresh b.start 0 b.state
 
+-- A run begins over each pair of files that opens: that they stand for numbers below 256 is so of every file.
+abbrev pub EachBegins : Type 0
+EachBegins = (image journal : List ℕ) (d : Document) → (o : Opens image journal d) → IsBytes o.bytes → (b : Begun) × Begins image journal b × (b.state.document ≡ d)
+
 -- they are refused for a cause, and this is its line
 pub record IsRefused (image journal text : List ℕ) : Type 0 where
   pub cause : Cause
   pub refused : IsRefusedBy image journal cause
   pub text_is : text ≡ cause_text cause
+
+-- and each pair opens, or is refused
+abbrev pub OpensOrRefused : Type 0
+OpensOrRefused = (image journal : List ℕ) → ((d : Document) × Opens image journal d) ⊎ ((text : List ℕ) × IsRefused image journal text)
 
 abbrev pub opens_in : List ℕ → List ℕ → Begun → Type 0
 opens_in image journal b = OpensIn b.start image journal b.state

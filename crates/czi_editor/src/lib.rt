@@ -2,6 +2,7 @@
 #![tactic(auto)]
 
 mod editor;
+mod laws;
 mod refusal;
 mod reply;
 #[cfg(test)]
@@ -9,3 +10,4 @@ mod tests;
 mod text;
 
 pub use editor::ImageEditor;
+pub use laws::each_pair_begins_or_is_refused;
