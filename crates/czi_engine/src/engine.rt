@@ -21,7 +21,7 @@ pub struct Engine {
     pub(crate) plan: EditPlan,
     /// A slot of the journal, before it is written.
     pub(crate) slot: Vec<u8>,
-    /// The span that each of the last 32 accepted edits holds back, if it holds one. The newest edit is the last.
+    /// The span that each of the last 32 accepted edits holds back, if it holds one. The newest edit is the first.
     pub(crate) edits: Vec<Option<Span>>,
     pub(crate) number: u64,
     pub(crate) down: bool,
