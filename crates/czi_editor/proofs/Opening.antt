@@ -5,7 +5,7 @@ use Rattle.std.proofs.lemmas.Option.{none-some}
 use Rattle.std.specs.Prelude.{option_map}
 use Rattle.czi_image.specs.Holds.{IsSettled}
 use Rattle.czi_image.proofs.Settled.{whole_settled}
-use Rattle.czi_opening.specs.Answers.{AreRecovered, IsCaused, Leaves, Tells as TellsOf, cause_of}
+use Rattle.czi_opening.specs.Answers.{AreRecovered, Leaves, Tells as TellsOf, cause_of}
 use Rattle.czi_opening.specs.Course.{OpensFrom, Stays}
 use Rattle.czi_opening.specs.Course as opening
 use Rattle.czi_opening.specs.Opens.{Cause, IsRefusedBy, Opens}
@@ -19,10 +19,8 @@ use Rattle.czi_rig.specs.State.{State, known, seen_of}
 use Rattle.czi_rig.specs.Moments.{Devices, devices, all_of}
 use Rattle.czi_rig.proofs.Known.{known_said, known_seen}
 use Rattle.czi_rig.proofs.Runs.{weaker}
-use Rattle.czi_session.specs.Causes.{OpenStops}
 use Rattle.czi_session.specs.Course.{From, IsUnrefused, KeepsFiles, Nothing, Open, Opening, Stands}
 use Rattle.czi_session.specs.Ends.{IsKept, OpensSo, Refuses}
-use Rattle.czi_session.specs.declared.stop.EditorStop.TheVariants.{Image as ImageStops, Journal as JournalStops, Memory as MemoryStops}
 use Rattle.czi_session.specs.declared.stop.OpenStop.{OpenStop}
 use Rattle.czi_session.specs.declared.stop.OpenStop.TheVariants.{Refused, Stopped}
 use Rattle.czi_engine.specs.Standing.{IsFresh, IsOpened, StandsOnRig}
@@ -81,13 +79,6 @@ opens_so error (Stopped stop) state image journal b tells cause is = tt
 pub refuses : (error : OpenError) (stop : OpenStop) (state : State) (image journal : List ℕ) → Tells error stop → TellsOf image journal state error → Refuses the_machine image journal stop
 refuses error (Refused text) state image journal tells cause = record { cause = tells.0; refused = (if_some (cause_of error) tells.0 (λ (c : Cause). IsRefusedBy image journal c × Leaves image journal state c) tells.1 cause).0; text_is = tells.2 }
 refuses error (Stopped stop) state image journal tells cause = tt
-
--- a device fails only where its count rose
-pub open_stops : (error : OpenError) (stop : OpenStop) (old new : State) → Tells error stop → IsCaused old new error → OpenStops stop old new
-open_stops error (Refused text) old new tells caused = tt
-open_stops error (Stopped ImageStops) old new tells caused = subst (IsCaused old new) tells caused
-open_stops error (Stopped JournalStops) old new tells caused = subst (IsCaused old new) tells caused
-open_stops error (Stopped MemoryStops) old new tells caused = tt
 
 -- the engine stands at the state at the start
 pub opened_stands : (x : Engine) (old new : State) (said : List ℕ) (b : Begun) → Opening the_machine old said b
