@@ -11,7 +11,7 @@ use czi_num::{read_i32, read_i64};
 /// The front of subblock data: how long its contents are, in bytes, and where they begin in the data.
 ///
 /// The contents are the metadata, the pixels and the attachment, one behind the other.
-#[derive(Clone, Copy, Debug, PartialEq, Eq)]
+#[derive(Clone, Copy, PartialEq, Eq)]
 pub struct SubHead {
     /// MetadataSize.
     pub meta: u32,
@@ -49,7 +49,7 @@ pub fn read_sub_head(bytes: &[u8; 48]) -> Option<SubHead>
 }
 
 /// The front of metadata data: how long its contents are, in bytes. They begin at place 256 of the data.
-#[derive(Clone, Copy, Debug, PartialEq, Eq)]
+#[derive(Clone, Copy, PartialEq, Eq)]
 pub struct MetaHead {
     /// XmlSize.
     pub xml: u32,

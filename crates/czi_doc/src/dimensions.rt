@@ -6,7 +6,7 @@ ghost use Rattle.czi_format.specs.Partial.{is_zero};
 use std::alloc::AllocError;
 
 /// One dimension record of a subblock (DimensionEntryDV1).
-#[derive(Clone, Copy, Debug, PartialEq, Eq)]
+#[derive(Clone, Copy, PartialEq, Eq)]
 pub struct Dim {
     /// The dimension's name, padded with zero bytes.
     pub name: [u8; 4],
@@ -34,7 +34,7 @@ impl Dim {
 }
 
 /// Why a list is no list of dimensions.
-#[derive(Clone, Copy, Debug, PartialEq, Eq)]
+#[derive(Clone, Copy, PartialEq, Eq)]
 pub enum ItemFault {
     /// There is no record.
     NoDims,
@@ -43,7 +43,7 @@ pub enum ItemFault {
 }
 
 /// The dimensions of a subblock: 1 to 40 records, in the order of the entry.
-#[derive(Debug, PartialEq, Eq, Drop)]
+#[derive(PartialEq, Eq, Drop)]
 pub struct Dims {
     list: Vec<Dim>,
     pub ghost some: { 1 ≤ vec_len list },

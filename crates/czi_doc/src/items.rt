@@ -6,7 +6,7 @@ use crate::dimensions::Dims;
 use std::alloc::AllocError;
 
 /// What a directory entry (DirectoryEntryDV) says of a subblock, its position aside.
-#[derive(Debug, PartialEq, Eq, Drop)]
+#[derive(PartialEq, Eq, Drop)]
 pub struct EntryInfo {
     /// The pixel type's code.
     pub pixel: i32,
@@ -39,7 +39,7 @@ impl EntryInfo {
 }
 
 /// What an attachment directory entry (AttachmentEntryA1) says of an attachment, its position aside.
-#[derive(Clone, Copy, Debug, PartialEq, Eq)]
+#[derive(Clone, Copy, PartialEq, Eq)]
 pub struct AttInfo {
     /// The content's GUID, in the stored order of its bytes.
     pub guid: [u8; 16],
@@ -50,7 +50,7 @@ pub struct AttInfo {
 }
 
 /// A list of bytes.
-#[derive(Debug, PartialEq, Eq, Drop)]
+#[derive(PartialEq, Eq, Drop)]
 pub struct Bytes {
     list: Vec<u8>,
 }

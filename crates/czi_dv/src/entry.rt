@@ -7,7 +7,7 @@ use czi_doc::EntryInfo;
 use std::alloc::AllocError;
 
 /// A directory entry: what it says of a subblock, and where the subblock's segment stands.
-#[derive(Debug, PartialEq, Eq, Drop)]
+#[derive(PartialEq, Eq, Drop)]
 pub struct Entry {
     /// What it says of the subblock.
     pub info: EntryInfo,
@@ -16,7 +16,7 @@ pub struct Entry {
 }
 
 /// Why no directory entry was read.
-#[derive(Clone, Copy, Debug, PartialEq, Eq)]
+#[derive(Clone, Copy, PartialEq, Eq)]
 pub enum EntryFault {
     /// There are fewer than 32 bytes, or fewer than the dimension records need.
     Short,

@@ -11,7 +11,7 @@ use std::alloc::{AllocError, AllocFailed};
 /// The first rule of reading that fails, in the order of the variants; or a failed call, or want of memory.
 ///
 /// A place is a position as the image has it, or the place of an entry in the image, in bytes.
-#[derive(Clone, Copy, Debug, PartialEq, Eq)]
+#[derive(Clone, Copy, PartialEq, Eq)]
 pub enum ImageFault {
     /// No sound file header, `ZISRAWFILE`, stands at 0.
     NotCzi,

@@ -12,7 +12,7 @@ use czi_num::Span;
 use czi_seg::FileHeader;
 
 /// All that an image holds, and where it lies. No two of the live segments meet, and none meets one of `extents`.
-#[derive(Debug, Drop)]
+#[derive(Drop)]
 pub struct Index {
     /// The file header.
     pub header: FileHeader,

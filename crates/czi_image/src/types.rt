@@ -7,7 +7,7 @@ use czi_num::Span;
 use czi_seg::SegHeader;
 
 /// A live subblock. Its contents are the metadata, the pixels and the attachment, one behind the other.
-#[derive(Debug, Drop)]
+#[derive(Drop)]
 pub struct Tile {
     /// What the directory entry says of it.
     pub info: EntryInfo,
@@ -32,7 +32,7 @@ pub struct Tile {
 }
 
 /// A live attachment. Its contents begin at place 256 of the segment's data.
-#[derive(Clone, Copy, Debug, PartialEq, Eq)]
+#[derive(Clone, Copy, PartialEq, Eq)]
 pub struct AttItem {
     /// What the entry of the attachment directory says of it.
     pub info: AttInfo,
@@ -50,7 +50,7 @@ pub struct AttItem {
 }
 
 /// The live metadata. Its contents, the XML and an attachment, begin at place 256 of the segment's data.
-#[derive(Clone, Copy, Debug, PartialEq, Eq)]
+#[derive(Clone, Copy, PartialEq, Eq)]
 pub struct MetaItem {
     /// The extent of its segment in the image.
     pub span: Span,
@@ -68,7 +68,7 @@ pub struct MetaItem {
 }
 
 /// A live directory, of subblocks or of attachments.
-#[derive(Clone, Copy, Debug, PartialEq, Eq)]
+#[derive(Clone, Copy, PartialEq, Eq)]
 pub struct DirItem {
     /// The extent of its segment in the image.
     pub span: Span,

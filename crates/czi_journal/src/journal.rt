@@ -8,7 +8,7 @@ pub(crate) const JOURNAL_LEN: u64 = 524352;
 pub(crate) const MARK: u8 = 0x5a;
 
 /// One of the two slots.
-#[derive(Clone, Copy, Debug, PartialEq, Eq)]
+#[derive(Clone, Copy, PartialEq, Eq)]
 pub enum Slot {
     A,
     B,
@@ -50,7 +50,7 @@ impl Slot {
 }
 
 /// Where a journal stands.
-#[derive(Clone, Copy, Debug, PartialEq, Eq)]
+#[derive(Clone, Copy, PartialEq, Eq)]
 pub struct Journal {
     /// Whether the journal file counts.
     pub armed: bool,

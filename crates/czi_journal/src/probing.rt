@@ -14,7 +14,7 @@ use czi_rig::{Failed, File, Rig};
 use std::alloc::{AllocError, Global};
 
 /// Why a journal that counts can't be read.
-#[derive(Clone, Copy, Debug, PartialEq, Eq)]
+#[derive(Clone, Copy, PartialEq, Eq)]
 pub enum JournalFault {
     /// The selected slot's record has this version, which isn't 1.
     Version(u32),

@@ -13,7 +13,7 @@ pub(crate) const VERSION: u32 = 1;
 pub(crate) const RECORD_HEAD: usize = 32;
 
 /// What a record says besides its links.
-#[derive(Clone, Copy, Debug, PartialEq, Eq)]
+#[derive(Clone, Copy, PartialEq, Eq)]
 pub struct SlotHead {
     /// The GUID in the file header of the image that the record is for, as it is stored there.
     pub guid: [u8; 16],
@@ -47,7 +47,7 @@ pub(crate) fn write_head(out: &mut [u8], head: &SlotHead, count: u32)
 }
 
 /// Why a slot holds no record that can be read.
-#[derive(Clone, Copy, Debug, PartialEq, Eq)]
+#[derive(Clone, Copy, PartialEq, Eq)]
 pub enum LinkFault {
     /// The record has this version, which isn't 1.
     Version(u32),

@@ -10,7 +10,7 @@ use czi_num::Span;
 /// The first rule of reading an image that fails, in the order of the variants.
 ///
 /// A place is a position as the image has it, or the place of an entry in the image, in bytes.
-#[derive(Clone, Copy, Debug, PartialEq, Eq)]
+#[derive(Clone, Copy, PartialEq, Eq)]
 pub enum ImageRefusal {
     /// No sound file header, `ZISRAWFILE`, stands at 0.
     NotCzi,
@@ -34,7 +34,7 @@ pub enum ImageRefusal {
 }
 
 /// Why an image isn't opened. The first five are told in the order of the variants.
-#[derive(Clone, Copy, Debug, PartialEq, Eq)]
+#[derive(Clone, Copy, PartialEq, Eq)]
 pub enum OpenError {
     /// The record in the journal's selected slot has this version, which isn't 1.
     JournalVersion(u32),

@@ -24,7 +24,7 @@ pub struct EditPlan {
 }
 
 /// Why an edit has no plan.
-#[derive(Clone, Copy, Debug, PartialEq, Eq)]
+#[derive(Clone, Copy, PartialEq, Eq)]
 pub enum PlanFault {
     /// A new segment has no place: past the length it would end above 2^40.
     Full {

@@ -5,7 +5,7 @@ ghost use Rattle.std.specs.Prelude.{◌≤◌, vec_len, vec_capacity};
 use std::alloc::{AllocError, Global};
 
 /// A range of the bytes that were put since the last reset.
-#[derive(Clone, Copy, Debug, PartialEq, Eq)]
+#[derive(Clone, Copy, PartialEq, Eq)]
 pub struct Piece {
     /// Its first byte, counted from the region's front.
     pub at: usize,
@@ -15,7 +15,7 @@ pub struct Piece {
 
 /// One block of bytes with a moving end. Pieces are put one behind another and stay where they are until the
 /// region is reset. Only `ensure` takes memory.
-#[derive(Debug, Drop)]
+#[derive(Drop)]
 pub struct Region {
     bytes: Vec<u8>,
     limit: usize,

@@ -3,7 +3,7 @@
 use czi_doc::Dims;
 
 /// One command of a script.
-#[derive(Debug, PartialEq, Eq, Drop)]
+#[derive(PartialEq, Eq, Drop)]
 pub enum Command {
     /// `remove`: the subblock with these dimensions is to go.
     Remove {

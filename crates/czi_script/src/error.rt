@@ -3,7 +3,7 @@
 use crate::kind::Kind;
 
 /// Why no further command is read.
-#[derive(Clone, Copy, Debug, PartialEq, Eq)]
+#[derive(Clone, Copy, PartialEq, Eq)]
 pub enum ScriptError {
     /// The bytes spell no command.
     Fault {

@@ -2,7 +2,7 @@
 
 /// Why the bytes of a script begin with no command: the first of these that applies, in the order in which the
 /// bytes are read. A line is read whole before its word is looked at.
-#[derive(Clone, Copy, Debug, PartialEq, Eq)]
+#[derive(Clone, Copy, PartialEq, Eq)]
 pub enum Kind {
     /// The input ends within a line that has at most 4,095 bytes so far.
     Cut,

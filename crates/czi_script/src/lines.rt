@@ -15,7 +15,7 @@ use std::alloc::Global;
 pub(crate) const LINE: usize = 4096;
 
 /// What stands in front of the bytes.
-#[derive(Clone, Copy, Debug, PartialEq, Eq)]
+#[derive(Clone, Copy, PartialEq, Eq)]
 pub(crate) enum Front {
     /// A line of so many bytes, and its line feed.
     Line(usize),
@@ -26,7 +26,7 @@ pub(crate) enum Front {
 }
 
 /// Why a line is no command.
-#[derive(Clone, Copy, Debug, PartialEq, Eq)]
+#[derive(Clone, Copy, PartialEq, Eq)]
 pub(crate) enum Refusal {
     /// It is none of the script's, by this kind of fault.
     Kind(Kind),

@@ -12,7 +12,7 @@ use crate::id::SegId;
 use czi_num::{read_bytes, read_i32, read_i64, write_bytes, write_i32, write_i64};
 
 /// The file header of the first part of a file: the segment at place 0.
-#[derive(Clone, Copy, Debug, PartialEq, Eq)]
+#[derive(Clone, Copy, PartialEq, Eq)]
 pub struct FileHeader {
     /// The first 52 bytes of its data: the version, eight reserved bytes, PrimaryFileGuid, FileGuid and
     /// FilePart.
@@ -30,7 +30,7 @@ pub struct FileHeader {
 }
 
 /// Why no file header was read.
-#[derive(Clone, Copy, Debug, PartialEq, Eq)]
+#[derive(Clone, Copy, PartialEq, Eq)]
 pub enum HeaderFault {
     /// There are fewer than 112 bytes.
     Short,

@@ -10,7 +10,7 @@ use crate::id::SegId;
 use czi_num::{read_bytes, read_i64, write_bytes, write_u64};
 
 /// The header of a segment, with both sizes as they are stored.
-#[derive(Clone, Copy, Debug, PartialEq, Eq)]
+#[derive(Clone, Copy, PartialEq, Eq)]
 pub struct SegHeader {
     /// The segment's id.
     pub id: SegId,

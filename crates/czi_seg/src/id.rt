@@ -1,7 +1,7 @@
 //! Ids of segments.
 
 /// The id of a segment: 16 bytes, ASCII padded with zero bytes.
-#[derive(Clone, Copy, Debug, PartialEq, Eq)]
+#[derive(Clone, Copy, PartialEq, Eq)]
 pub enum SegId {
     /// `ZISRAWFILE`: the file header.
     File,

@@ -6,7 +6,7 @@ ghost use Rattle.czi_session.specs.Causes.{stop_of};
 use czi_script::Kind;
 
 /// Why an editor can't go on with a command.
-#[derive(Clone, Copy, Debug, PartialEq, Eq)]
+#[derive(Clone, Copy, PartialEq, Eq)]
 pub enum EditorStop {
     /// A call on the image failed, and its count of faults rose.
     Image,
@@ -17,7 +17,7 @@ pub enum EditorStop {
 }
 
 /// Why an editor doesn't open.
-#[derive(Debug, PartialEq, Eq, Drop)]
+#[derive(PartialEq, Eq, Drop)]
 pub enum OpenStop {
     /// The image and the journal are refused, with this text.
     Refused(Vec<u8>),
@@ -26,7 +26,7 @@ pub enum OpenStop {
 }
 
 /// Why a run ends before its script does.
-#[derive(Clone, Copy, Debug, PartialEq, Eq)]
+#[derive(Clone, Copy, PartialEq, Eq)]
 pub enum Stop {
     /// The input isn't a script. It was said which command is none, and why.
     Script(u64, Kind),
@@ -45,7 +45,7 @@ pub enum Stop {
 }
 
 /// How a run ends.
-#[derive(Clone, Copy, Debug, PartialEq, Eq)]
+#[derive(Clone, Copy, PartialEq, Eq)]
 pub enum Ended {
     /// Each command was done and its reply said, and the journal is sealed.
     Done,

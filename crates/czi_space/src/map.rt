@@ -10,7 +10,7 @@ use std::marker::Model;
 /// The free space of an image: its DELETED extents, the spans that are held back, and the committed length,
 /// all in bytes. A free run is a maximal part of one extent that meets no held span. With n extents and h held
 /// spans, a call that changes one of them finds its place by binary search and moves the later ones.
-#[derive(Debug, Drop)]
+#[derive(Drop)]
 pub struct Map {
     extents: Vec<Span>,
     held: Vec<Span>,

@@ -1,7 +1,7 @@
 //! Where a need goes.
 
 /// Where a need goes, in bytes.
-#[derive(Clone, Copy, Debug, PartialEq, Eq)]
+#[derive(Clone, Copy, PartialEq, Eq)]
 pub enum Place {
     /// To this place.
     At(u64),

@@ -4,7 +4,7 @@ ghost use Rattle.czi_top.specs.View.{command_view};
 ghost use Rattle.czi_top.specs.Words.{command_of, is_plain, named};
 
 /// What can be asked of an image.
-#[derive(Clone, Copy, Debug, PartialEq, Eq)]
+#[derive(Clone, Copy, PartialEq, Eq)]
 pub(crate) enum Command {
     /// The subblocks.
     List,

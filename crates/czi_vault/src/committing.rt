@@ -18,7 +18,7 @@ use czi_links::{Links, SlotHead};
 use czi_rig::{Failed, File, Rig};
 
 /// A call on this file failed.
-#[derive(Clone, Copy, Debug, PartialEq, Eq)]
+#[derive(Clone, Copy, PartialEq, Eq)]
 pub enum VaultFault {
     Image,
     Journal,

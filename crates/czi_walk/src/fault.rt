@@ -7,7 +7,7 @@ use czi_rig::Failed;
 use std::alloc::{AllocError, AllocFailed};
 
 /// Why a walk stops early: memory is wanting, or the device failed, whose count of faults has risen.
-#[derive(Clone, Copy, Debug, PartialEq, Eq)]
+#[derive(Clone, Copy, PartialEq, Eq)]
 pub enum WalkFault {
     /// Memory is wanting.
     Memory,

@@ -22,7 +22,7 @@ use czi_seg::SegHeader;
 use std::alloc::{AllocError, Global};
 
 /// A walk, and what it shows beside the live segments.
-#[derive(Debug, Drop)]
+#[derive(Drop)]
 pub struct Survey {
     /// The extents and headers of the walk's segments, in order of place.
     pub walk: Vec<(Span, SegHeader)>,
