@@ -9,6 +9,3 @@ mod filling;
 mod steps;
 
 pub use steps::carry_out;
-
-#[cfg(test)]
-mod tests;

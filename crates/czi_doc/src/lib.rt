@@ -14,6 +14,3 @@ pub use items::{AttInfo, Bytes, EntryInfo};
 pub use keys::{Key, equal_keys};
 pub use reading::read_dims;
 pub use writing::{write_dims, write_name};
-
-#[cfg(test)]
-mod tests;

@@ -16,9 +16,6 @@ pub use czi_opening::{ImageRefusal, OpenError};
 pub use engine::Engine;
 pub use error::EditError;
 
-#[cfg(test)]
-mod tests;
-
 /// What stands for the bytes of a state, outside the holes of the state, opens as the state.
 pub fn views_open()
     ensures high { HolesAreHigh }

@@ -14,12 +14,8 @@ mod marking;
 mod metadata;
 mod opening;
 mod reading;
-#[cfg(test)]
-mod refusals;
 mod removing;
 mod segment;
-#[cfg(test)]
-mod tests;
 mod tiles;
 mod types;
 

@@ -26,6 +26,3 @@ pub use arming::create;
 pub use journal::{Journal, SLOT_LEN, Slot};
 pub use probing::{JournalFault, probe};
 pub use steps::{flip, seal, stage};
-
-#[cfg(test)]
-mod tests;

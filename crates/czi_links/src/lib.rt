@@ -23,6 +23,3 @@ mod write_set;
 pub use decoding::decode;
 pub use head::{LinkFault, SlotHead};
 pub use write_set::Links;
-
-#[cfg(test)]
-mod tests;

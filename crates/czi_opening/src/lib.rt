@@ -15,6 +15,3 @@ pub use closing::close;
 pub use error::{ImageRefusal, OpenError};
 pub use laws::{indexed_opens, one_opening, opened_or_refused};
 pub use opening::{Opened, open};
-
-#[cfg(test)]
-mod tests;

@@ -6,6 +6,3 @@ mod laws;
 
 pub use block::{Piece, Region};
 pub use laws::written_piece;
-
-#[cfg(test)]
-mod tests;

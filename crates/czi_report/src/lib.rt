@@ -6,8 +6,6 @@
 mod details;
 mod laws;
 mod listing;
-#[cfg(test)]
-mod tests;
 mod text;
 
 pub use details::info;

@@ -17,6 +17,3 @@ pub use laws::{
     reading_goes_on,
 };
 pub use reader::ScriptReader;
-
-#[cfg(test)]
-mod tests;

@@ -6,8 +6,6 @@ mod commands;
 mod editor;
 mod steps;
 mod stop;
-#[cfg(test)]
-mod tests;
 mod text;
 mod top;
 

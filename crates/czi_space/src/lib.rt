@@ -8,6 +8,3 @@ mod place;
 
 pub use map::Map;
 pub use place::Place;
-
-#[cfg(test)]
-mod tests;

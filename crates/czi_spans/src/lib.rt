@@ -8,6 +8,3 @@ mod search;
 
 pub use order::{first_meeting, sort_items, sort_spans};
 pub use search::{find_place, has_place, meets_any};
-
-#[cfg(test)]
-mod tests;

@@ -1,8 +1,6 @@
 //! The program: what the words of the command line ask for, done over a rig and an input.
 #![tactic(auto)]
 
-#[cfg(test)]
-mod tests;
 mod top;
 mod words;
 

@@ -16,6 +16,3 @@ pub use fault::WalkFault;
 pub use marks::{count_unknown, deleted_extents, is_walked, walk_end};
 pub use surveying::{Survey, spans_of, walk_and_mark};
 pub use walking::{walk, walk_known};
-
-#[cfg(test)]
-mod tests;
