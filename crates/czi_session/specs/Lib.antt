@@ -2,4 +2,3 @@ pub mod Causes
 pub mod Course
 pub mod Ends
 pub mod Text
-pub mod Trials

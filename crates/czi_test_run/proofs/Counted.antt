@@ -12,7 +12,7 @@ use Rattle.czi_rig.proofs.Files.{left_settled}
 use Rattle.czi_rig.proofs.Known.{same_known, file_known, known_file, known_seen}
 use Rattle.czi_rig.proofs.Runs.{started, always}
 use Rattle.czi_session.specs.Course.{Opening, Stands, Open, From}
-use Rattle.czi_session.specs.Trials.{counting, Counts}
+use Rattle.czi_test_run.specs.Counting.{counting, Counts}
 
 abbrev pub No : Instant
 No image journal said = ⊥

@@ -1,4 +1,4 @@
--- Small editors, for tests.
+-- An editor that counts, for tests.
 use Rattle.std.specs.Prelude.{◌≡◌, ℕ, ◌+◌, ◌<◌, List, [], ◌∷◌, length}
 use Rattle.std.proofs.Common.{◌∙◌, ap, subst, lit<}
 use Rattle.czi_script.specs.Script.{Command}

@@ -1,0 +1,70 @@
+//! An editor for tests.
+
+ghost use Rattle.std.specs.Prelude.{◌≡◌, ◌++◌, OnOk, ⊤};
+ghost use Rattle.czi_test_run.specs.Counting.{counting, Counts, ok_line, opens_counts, says_ok};
+
+use czi_rig::{Failed, File, Rig, write_synced};
+use czi_script::Command;
+use czi_session::{Editor, EditorStop, OpenStop};
+use std::alloc::{AllocError, Global};
+
+/// An editor that counts: each command makes the image longer by a byte.
+#[derive(Drop)]
+pub(crate) struct Counter {}
+
+/// Appends the reply of a counter.
+fn push_ok(reply: &mut Vec<u8>) -> Result<(), AllocError>
+    ensures { OnOk result (reply.new.items ≡ reply.old.items ++ ok_line) }
+{
+    reply.extend_from_slice(b"ok\n")
+}
+
+impl Editor for Counter {
+    ghost model = { counting };
+
+    ghost stands = { λ editor image journal s. Counts image journal s };
+
+    ghost ready = { λ editor state. ⊤ };
+
+    ghost stays_ready = { λ editor old new ready same on. ready };
+
+    ghost opens_now = { λ editor image journal s. opens_counts image journal s };
+
+    ghost says_something = { λ s c. says_ok s c };
+
+    fn open<R: Rig>(_alloc: Global, rig: &mut R) -> Result<Counter, OpenStop> {
+        match rig.sync(File::Image) {
+            Ok(()) => match rig.sync(File::Journal) {
+                Ok(()) => Ok(Counter {}),
+                Err(_) => Err(OpenStop::Stopped(EditorStop::Journal)),
+            },
+            Err(_) => Err(OpenStop::Stopped(EditorStop::Image)),
+        }
+    }
+
+    fn perform<R: Rig>(
+        &mut self,
+        _alloc: Global,
+        rig: &mut R,
+        _command: &Command,
+        reply: &mut Vec<u8>,
+    ) -> Result<(), EditorStop> {
+        let Ok(()) = push_ok(reply) else {
+            return Err(EditorStop::Memory);
+        };
+        let Ok(at) = rig.len(File::Image) else {
+            return Err(EditorStop::Image);
+        };
+        if at >= 1 << 62 {
+            return Err(EditorStop::Memory);
+        }
+        match write_synced(rig, File::Image, at, &[0]) {
+            Ok(()) => Ok(()),
+            Err(_) => Err(EditorStop::Image),
+        }
+    }
+
+    fn seal<R: Rig>(self, _rig: &mut R) -> Result<(), Failed> {
+        Ok(())
+    }
+}

@@ -1,0 +1,175 @@
+//! Tests of scripts: what they say and leave, and what an input or a journal that is wrong makes of them.
+
+use crate::images::{Part, one_tile, put};
+use crate::outcomes::{NO_TILES, ONE, TILE, check_said, outcome, outcome_over};
+use czi_rig::{File, MemRig};
+use std::alloc::{AllocError, Global};
+use std::process::Abort;
+use std::test::Fail;
+
+/// It removes the one tile, lists what is left, and removes it again.
+pub(crate) const SCRIPT: &[u8] = b"remove dims=C0,X0:4,Y0:2\n\
+    list\n\
+    remove dims=C0,X0:4,Y0:2\n";
+
+/// What it says.
+pub(crate) const REPLIES: &[u8] = b"ok 1\ntiles 0\nno key\n";
+
+// What `info` says once the tile is removed.
+const REMOVED: &[u8] = b"length 1280\n\
+    guid 00112233-4455-6677-8899-aabbccddeeff\n\
+    directory 544 160\n\
+    tiles 0\n\
+    attdir none\n\
+    attachments 0\n\
+    metadata none\n";
+
+/// A rig over the document with one tile.
+pub(crate) fn one_tile_rig(alloc: Global) -> Result<MemRig, AllocError> {
+    let image = one_tile(alloc, 1280, &[])?;
+    MemRig::new(alloc, &image, b"")
+}
+
+// Scripts, the status and what is said, how long the journal is then, and what `info` says.
+static SCRIPTS: [(&[u8], u8, &[u8], usize, &[u8]); 8] = [
+    (SCRIPT, 0, REPLIES, 1, REMOVED),
+    (
+        b"remove dims=Y0:2,C0,X0:4\nremove dims=C1,X0:4,Y0:2\n",
+        0,
+        b"ok 1\nno key\n",
+        1,
+        REMOVED,
+    ),
+    (b"", 0, b"", 0, ONE),
+    (b"list\n", 0, TILE, 0, ONE),
+    (b"undo\n", 3, b"script 1 later\n", 0, ONE),
+    (b"list", 3, b"script 1 cut\n", 0, ONE),
+    (
+        b"remove dims=C0,X0:4,Y0:2\nbad\n",
+        3,
+        b"ok 1\nscript 2 word\n",
+        524_352,
+        REMOVED,
+    ),
+    (
+        b"remove dims=C0,X0,Y0:2\nremove dims=C0 X0:4,Y0:2\n",
+        3,
+        b"no key\nscript 2 field\n",
+        0,
+        ONE,
+    ),
+];
+
+// A rig on which the script was run: it ended and said so.
+fn ran(
+    rt: &impl Abort,
+    alloc: Global,
+    script: &[u8],
+    status: u8,
+    said: &[u8],
+) -> Result<MemRig, Fail> {
+    let mut rig = one_tile_rig(alloc)?;
+    let answer = outcome(alloc, &["F", "edit"], script, &mut rig)?;
+    assert!(rt; answer == status && rig.said() == said);
+    Ok(rig)
+}
+
+#[test]
+fn scripts_are_run(rt: HostRuntime) -> Result<(), Fail> {
+    let alloc = rt.alloc();
+    for (script, status, said, journal, after) in SCRIPTS.iter() {
+        let rig = ran(&rt, alloc, script, *status, said)?;
+        check_left(&rt, alloc, &rig, *journal, after)?;
+    }
+    Ok(())
+}
+
+// The journal that a run has left is so long, and `info` says this of what it has left.
+fn check_left(
+    rt: &impl Abort,
+    alloc: Global,
+    rig: &MemRig,
+    journal_len: usize,
+    said: &[u8],
+) -> Result<(), Fail> {
+    let journal = rig.content(File::Journal);
+    assert!(rt; journal.len() == journal_len);
+    check_said(
+        rt,
+        alloc,
+        "info",
+        (rig.content(File::Image), journal),
+        (0, said),
+    )
+}
+
+// The call of the input that fails, and what is said.
+fn check_input_failed(
+    rt: &impl Abort,
+    alloc: Global,
+    failing: u64,
+    said: &[u8],
+) -> Result<MemRig, Fail> {
+    let mut rig = one_tile_rig(alloc)?;
+    let status = outcome_over(alloc, &["F", "edit"], SCRIPT, failing, &mut rig)?;
+    assert!(rt; status == 7 && rig.said() == said);
+    Ok(rig)
+}
+
+#[test]
+fn a_failed_input_stops_the_script(rt: HostRuntime) -> Result<(), Fail> {
+    let alloc = rt.alloc();
+    let rig = check_input_failed(&rt, alloc, 0, b"")?;
+    let image = one_tile(alloc, 1280, &[])?;
+    assert!(rt; rig.content(File::Image) == image.as_slice());
+    assert!(rt; rig.content(File::Journal).is_empty());
+    let _ = check_input_failed(&rt, alloc, 1, REPLIES)?;
+    Ok(())
+}
+
+// The bytes, with others written over them.
+fn changed(alloc: Global, bytes: &[u8], part: Part) -> Result<Vec<u8>, AllocError> {
+    let mut changed = Vec::from_slice(alloc, bytes)?;
+    put(&mut changed, &[part]);
+    Ok(changed)
+}
+
+const NONE: Part = (0, b"");
+
+// How long the image is made, what is written over the image and over the journal, and what `list` answers then.
+static MISFITS: [(usize, Part, Part, u8, &[u8]); 6] = [
+    (1280, NONE, NONE, 0, NO_TILES),
+    (1000, NONE, NONE, 2, b"refused short 1000 1280\n"),
+    (
+        1280,
+        (64, &[0; 16]),
+        NONE,
+        2,
+        b"refused foreign 00112233-4455-6677-8899-aabbccddeeff 00000000-0000-0000-0000-000000000000\n",
+    ),
+    (1280, NONE, (262_208, &[9]), 2, b"refused version 9\n"),
+    (1280, NONE, (262_236, &[4]), 2, b"refused journal 262348\n"),
+    (
+        1280,
+        NONE,
+        (262_228, &[111, 0]),
+        2,
+        b"refused journal 262228\n",
+    ),
+];
+
+// The journal counts after a script that breaks off. Slot B is selected, from 262208 on: its record is of version 1, and has
+// the GUID at 262212, the length 1280, at 262236 three links: of 8, 32 and 32 bytes.
+#[test]
+fn a_journal_that_counts_refuses_what_does_not_fit(rt: HostRuntime) -> Result<(), Fail> {
+    let alloc = rt.alloc();
+    let script = b"remove dims=C0,X0:4,Y0:2\nbad\n";
+    let rig = ran(&rt, alloc, script, 3, b"ok 1\nscript 2 word\n")?;
+    for (len, in_image, in_journal, status, said) in MISFITS.iter() {
+        let mut image = changed(alloc, rig.content(File::Image), *in_image)?;
+        image.truncate(*len);
+        let journal = changed(alloc, rig.content(File::Journal), *in_journal)?;
+        check_said(&rt, alloc, "list", (&image, &journal), (*status, said))?;
+    }
+    Ok(())
+}
