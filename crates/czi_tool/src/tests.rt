@@ -22,14 +22,14 @@ fn missing_file_is_empty_and_made_by_the_first_write(rt: HostRuntime) -> Result<
     clear(&rt, &["new.czi", "new.czi.jrn"]);
     let mut rig = rig_over(&rt, "new.czi", "new.czi.jrn")?;
     let mut none = [0u8; 0];
-    assert_eq!(rt; rig.len(File::Image), Ok(0));
-    assert_eq!(rt; rig.read_at(File::Image, 0, &mut none), Ok(()));
-    assert_eq!(rt; rig.sync(File::Image), Ok(()));
+    assert!(rt; rig.len(File::Image) == Ok(0));
+    assert!(rt; rig.read_at(File::Image, 0, &mut none) == Ok(()));
+    assert!(rt; rig.sync(File::Image) == Ok(()));
     assert!(rt; !fs::exists(&rt, "new.czi")?);
-    assert_eq!(rt; rig.write_at(File::Image, 0, b"abcdef"), Ok(()));
+    assert!(rt; rig.write_at(File::Image, 0, b"abcdef") == Ok(()));
     assert_eq!(rt; fs::read(&rt, "new.czi")?.as_slice(), b"abcdef".as_slice());
     assert!(rt; !fs::exists(&rt, "new.czi.jrn")?);
-    assert_eq!(rt; rig.cut(File::Journal, 0), Ok(()));
+    assert!(rt; rig.cut(File::Journal, 0) == Ok(()));
     assert_eq!(rt; fs::read(&rt, "new.czi.jrn")?.len(), 0);
     assert_eq!(rt;
         (rig.image.faults, rig.journal.faults, rig.output_faults),
@@ -44,23 +44,23 @@ fn file_has_what_was_written_and_cut(rt: HostRuntime) -> Result<(), Fail> {
     fs::write(&rt, "image.czi", b"abcdef")?;
     let mut rig = rig_over(&rt, "image.czi", "image.czi.jrn")?;
     let mut three = [0u8; 3];
-    assert_eq!(rt; rig.len(File::Image), Ok(6));
-    assert_eq!(rt; rig.read_at(File::Image, 2, &mut three), Ok(()));
+    assert!(rt; rig.len(File::Image) == Ok(6));
+    assert!(rt; rig.read_at(File::Image, 2, &mut three) == Ok(()));
     assert_eq!(rt; three, *b"cde");
-    assert_eq!(rt; rig.sync(File::Image), Ok(()));
-    assert_eq!(rt; rig.write_at(File::Image, 4, b"EFGH"), Ok(()));
-    assert_eq!(rt; rig.read_at(File::Image, 3, &mut three), Ok(()));
+    assert!(rt; rig.sync(File::Image) == Ok(()));
+    assert!(rt; rig.write_at(File::Image, 4, b"EFGH") == Ok(()));
+    assert!(rt; rig.read_at(File::Image, 3, &mut three) == Ok(()));
     assert_eq!(rt; three, *b"dEF");
-    assert_eq!(rt; rig.cut(File::Image, 7), Ok(()));
-    assert_eq!(rt; rig.sync(File::Image), Ok(()));
-    assert_eq!(rt; rig.len(File::Image), Ok(7));
-    assert_eq!(rt; write_synced(&mut rig, File::Image, 7, b"HI"), Ok(()));
-    assert_eq!(rt; cut_synced(&mut rig, File::Image, 8), Ok(()));
+    assert!(rt; rig.cut(File::Image, 7) == Ok(()));
+    assert!(rt; rig.sync(File::Image) == Ok(()));
+    assert!(rt; rig.len(File::Image) == Ok(7));
+    assert!(rt; write_synced(&mut rig, File::Image, 7, b"HI") == Ok(()));
+    assert!(rt; cut_synced(&mut rig, File::Image, 8) == Ok(()));
     assert_eq!(rt;
         fs::read(&rt, "image.czi")?.as_slice(),
         b"abcdEFGH".as_slice()
     );
-    assert_eq!(rt; rig.say(b"said\n"), Ok(()));
+    assert!(rt; rig.say(b"said\n") == Ok(()));
     assert_eq!(rt;
         (rig.image.faults, rig.journal.faults, rig.output_faults),
         (0, 0, 0)
@@ -74,14 +74,14 @@ fn refusal_of_the_system_is_counted(rt: HostRuntime) -> Result<(), Fail> {
     fs::write(&rt, "short.czi", b"abc")?;
     let mut rig = rig_over(&rt, "no/such/image.czi", "short.czi")?;
     let mut four = [0u8; 4];
-    assert_eq!(rt; rig.len(File::Image), Ok(0));
-    assert_eq!(rt; rig.sync(File::Image), Ok(()));
+    assert!(rt; rig.len(File::Image) == Ok(0));
+    assert!(rt; rig.sync(File::Image) == Ok(()));
     assert_eq!(rt; rig.image.faults, 0);
-    assert_eq!(rt; rig.read_at(File::Image, 0, &mut four), Err(Failed));
-    assert_eq!(rt; rig.write_at(File::Image, 0, b"a"), Err(Failed));
-    assert_eq!(rt; rig.cut(File::Image, 0), Err(Failed));
-    assert_eq!(rt; rig.read_at(File::Journal, 0, &mut four), Err(Failed));
-    assert_eq!(rt; rig.read_at(File::Journal, 3, &mut four), Err(Failed));
+    assert!(rt; rig.read_at(File::Image, 0, &mut four) == Err(Failed));
+    assert!(rt; rig.write_at(File::Image, 0, b"a") == Err(Failed));
+    assert!(rt; rig.cut(File::Image, 0) == Err(Failed));
+    assert!(rt; rig.read_at(File::Journal, 0, &mut four) == Err(Failed));
+    assert!(rt; rig.read_at(File::Journal, 3, &mut four) == Err(Failed));
     assert_eq!(rt;
         (rig.image.faults, rig.journal.faults, rig.output_faults),
         (3, 2, 0)
@@ -95,7 +95,7 @@ fn refusal_of_the_system_is_counted(rt: HostRuntime) -> Result<(), Fail> {
 fn source_tells_the_end_of_the_input(rt: HostRuntime) -> Result<(), Fail> {
     let mut source = InputSource::new(rt.clone()?);
     let mut four = [0u8; 4];
-    assert_eq!(rt; source.take(&mut four), Ok(0));
+    assert!(rt; source.take(&mut four) == Ok(0));
     assert_eq!(rt; source.faults, 0);
     Ok(())
 }
