@@ -14,14 +14,15 @@ use Rattle.czi_rig.specs.declared.call.Call.TheVariants.{Write, Cut, Sync, Say}
 use Rattle.czi_rig.specs.declared.log.Event.{Event}
 use Rattle.czi_rig.specs.Disk.{Disk, Durable, Left, Torn, TornCut, begun_write, begun_cut, overwritten, settled, at_rest}
 use Rattle.czi_rig.specs.State.{State, Instant, known, seen_of, durable_of, MayLeave, MayLeaveSaying, LeavesOther, SameAll, SameFiles, Becomes, MayHaveBegun, SaysSome}
-use Rattle.czi_rig.specs.Passes.{Passes, HasCause}
+use Rattle.czi_rig.specs.Passes.{Passes}
+use Rattle.czi_rig.specs.Faults.{Faults as FaultsAt, device_of, failed_at}
 use Rattle.czi_rig.specs.Moments.{Leaves}
 use Rattle.czi_rig.specs.Told.{Told}
 use Rattle.czi_rig.specs.Replay.{History, Faults, state_of, LeftSaying, LeftSince, disk_at, disk_now, said_now, saying, done, landed, cut_to, put, was_cut, synced, replay, IsSound, IsKept}
 use Rattle.czi_rig.specs.Laws.{sound_now}
 use Rattle.czi_rig.proofs.Effects.{sound_at_rest, torn_over, torn_take, landed_within, landed_all, done_within, cut_above, cut_below, sound_put, sound_cut, sound_sync, synced_less}
 use Rattle.czi_rig.proofs.Pushed.{passes_same, passes_push}
-use Rattle.czi_rig.proofs.Steps.{Step, FileStep, Came, On, came, known_is, seen_is, durable_is, on_write, on_cut, on_sync, leaves_other, has_cause, passes_begun, passes_less, disk_added, said_added, sound_added}
+use Rattle.czi_rig.proofs.Steps.{Step, FileStep, Came, On, came, known_is, seen_is, durable_is, on_write, on_cut, on_sync, leaves_other, passes_begun, passes_less, disk_added, said_added, sound_added}
 
 becomes : (h g : History) (a b : Faults) (f : File) (R : List ℕ → List ℕ → Type 0) → R (disk_now h f).seen (disk_now g f).seen → Becomes R (seen_of (state_of h a) f) (seen_of (state_of g b) f)
 becomes h g a b f R r = λ old is. ((disk_now g f).seen, seen_is g b f, subst (λ (s : List ℕ). R s (disk_now g f).seen) (same_Some _ old (sym (seen_is h a f) ∙ is)) r)
@@ -33,7 +34,7 @@ pub record Begins (f : File) (step : Durable → Durable) (seen : List ℕ → L
   pub begun : OnOk result (durable_of t f ≡ option_map step (durable_of s f))
   pub failed : OnErr result (MayHaveBegun step (known s f) (known t f))
   pub other : LeavesOther f s t
-  pub cause : HasCause f s t result
+  pub cause : FaultsAt (failed_at result (device_of f)) s t
   pub time : Passes s t before since (MayLeave t)
 
 begins : (f : File) (call : Call) (bytes : List ℕ) (result : Result (Unit {0}) Failed) (old new : History) (a b : Faults) (t u : Told) (now : List ℕ) (make : List ℕ → List ℕ) (made : Disk)
@@ -47,7 +48,7 @@ begins f call bytes result old new a b t u now make made step seen torn none s c
   begun = begun result c.here;
   failed = failed result c.here;
   other = leaves_other f (is_err result) old new a b now made c;
-  cause = has_cause f result (state_of old a) (state_of new b) s.rose;
+  cause = s.counts;
   time = passes_begun f call bytes (is_err result) old new a b t u now make none s;
 }
   where
@@ -119,7 +120,7 @@ cuts f len result old new a b t u now k within s =
 pub record Quiet (f : File) {T : Type 0} (result : Result T Failed) (old new : History) (a b : Faults) (now : List ℕ) : Type 0 where
   pub came : Came f (is_err result) old new now (disk_now old f)
   pub same : SameAll (state_of old a) (state_of new b)
-  pub cause : HasCause f (state_of old a) (state_of new b) result
+  pub cause : FaultsAt (failed_at result (device_of f)) (state_of old a) (state_of new b)
   pub time : Passes (state_of old a) (state_of new b) (LeftSince old) (LeftSince new) (MayLeave (state_of old a))
 
 same_all : (f : File) (failed : Bool) (old new : History) (a b : Faults) (now : List ℕ) → Came f failed old new now (disk_now old f) → SameAll (state_of old a) (state_of new b)
@@ -141,7 +142,7 @@ quiet f call result old new a b t u now k on s =
     record {
       came = c;
       same = same_all f (is_err result) old new a b now c;
-      cause = has_cause f result (state_of old a) (state_of new b) s.rose;
+      cause = s.counts;
       time = passes_less f call [] (is_err result) old new a b t u now _ _ on.silent s c (λ left l. l);
     }
 
@@ -175,7 +176,7 @@ pub record Syncs (f : File) (result : Result (Unit {0}) Failed) (old new : Histo
   pub synced_is : OnOk result (durable_of (state_of new b) f ≡ option_map settled (seen_of (state_of old a) f))
   pub failed : OnErr result (durable_of (state_of new b) f ≡ durable_of (state_of old a) f)
   pub other : LeavesOther f (state_of old a) (state_of new b)
-  pub cause : HasCause f (state_of old a) (state_of new b) result
+  pub cause : FaultsAt (failed_at result (device_of f)) (state_of old a) (state_of new b)
   pub time : Passes (state_of old a) (state_of new b) (LeftSince old) (LeftSince new) (MayLeave (state_of old a))
 
 pub syncs : (f : File) (result : Result (Unit {0}) Failed) (old new : History) (a b : Faults) (t u : Told) (now : List ℕ) {image journal said : List ℕ} → IsKept old image journal said
@@ -190,7 +191,7 @@ syncs f result old new a b t u now k s =
       synced_is = ok result c.here;
       failed = err result c.here;
       other = leaves_other f (is_err result) old new a b now _ c;
-      cause = has_cause f result (state_of old a) (state_of new b) s.rose;
+      cause = s.counts;
       time = passes_less f _ [] (is_err result) old new a b t u now _ _ refl s c (synced_less (is_err result) (disk_now old f) sound.new);
     }
   where

@@ -1,10 +1,10 @@
 -- How calls that leave everything as it was follow one another.
-use Rattle.std.proofs.Common.{◌≡◌, ℕ, ◌≤◌, inl, Some, List, IsTrue, ⊎_elim, ◌∙◌, refl, subst, sym, arith}
+use Rattle.std.proofs.Common.{◌≡◌, inl, Some, IsTrue, ⊎_elim, ◌∙◌, refl, subst, sym, arith}
 use Rattle.czi_rig.specs.declared.rig.Rig.{Ghosts}
 use Rattle.czi_rig.specs.State.{State, Instant, SameAll, MayLeave}
-use Rattle.czi_rig.specs.Passes.{Passes, GoesOn}
-use Rattle.czi_rig.specs.Moments.{Devices, devices, all_of, CountsNow, Throughout, Run}
-use Rattle.czi_rig.specs.Quiet.{AddsNothing, Untouched}
+use Rattle.czi_rig.specs.Passes.{Passes}
+use Rattle.czi_rig.specs.Moments.{Devices, devices, all_of, CountsNow, Run}
+use Rattle.czi_rig.specs.Quiet.{Untouched}
 use Rattle.czi_rig.proofs.Known.{is_honest}
 
 -- what is told stays so

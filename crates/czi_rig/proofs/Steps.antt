@@ -1,5 +1,5 @@
 -- What a call of a rig in memory came to, and what it keeps.
-use Rattle.std.proofs.Common.{◌≡◌, ◌⊎◌, inl, inr, ⊎_elim, ℕ, ◌-◌, ◌<◌, ◌≤◌, ◌^◌, Bool, true, false, cond, Some, Ok, Err, Result, List, [], ◌∷◌, ◌++◌, length, map, refl, sym, ◌∙◌, ap, subst, arith}
+use Rattle.std.proofs.Common.{◌≡◌, ◌⊎◌, inl, inr, ⊎_elim, ℕ, ◌-◌, ◌<◌, ◌≤◌, ◌^◌, Bool, true, false, cond, Some, None, Result, List, [], ◌∷◌, ◌++◌, length, map, refl, sym, ◌∙◌, ap, subst, arith}
 use Rattle.std.specs.Prelude.{is_err, option_map, Contains}
 use Rattle.std.specs.Option.{ForSome}
 use Rattle.std.proofs.lemmas.List.{append-nil, map_push, length-map}
@@ -13,8 +13,10 @@ use Rattle.czi_rig.specs.declared.log.Event.{Event}
 use Rattle.czi_rig.specs.declared.log.Log.{Log}
 use Rattle.czi_rig.specs.declared.content.Content.{Content}
 use Rattle.czi_rig.specs.Disk.{Disk, Left}
-use Rattle.czi_rig.specs.State.{State, Instant, known, seen_of, durable_of, faults_of, other, MayLeave, LeavesOther}
-use Rattle.czi_rig.specs.Passes.{Passes, Rose, HasCause}
+use Rattle.czi_rig.specs.State.{Instant, known, seen_of, durable_of, other, MayLeave, LeavesOther}
+use Rattle.czi_rig.specs.Passes.{Passes}
+use Rattle.czi_rig.specs.Faults.{Counted, Faults as FaultsAt, device_of}
+use Rattle.czi_rig.proofs.Faults.{image_counts, journal_counts}
 use Rattle.czi_rig.specs.Moments.{Leaves}
 use Rattle.czi_rig.specs.Outcome.{Outcome, raised}
 use Rattle.czi_rig.specs.Memory.{history, faults}
@@ -82,12 +84,16 @@ module _ (call : Call) (bytes : List ℕ) {T : Type 0} (result : Result T Failed
   no_less : f ≤ f'
   no_less = ⊎_elim (λ none. none.1.no_fewer) (λ done. done.0.no_fewer) o
 
-  -- a count that a failed call has risen
-  rose : is_err result ≡ true → Rose f f'
-  rose failed = elim o [
-    | inl none ↦ omega (arith, none.1.faults)
-    | inr done ↦ omega (arith, done.0.faults ∙ ap (λ (b : Bool). cond b (raised f) f) failed)
+  -- the count has risen where the call failed, and is as it was where it didn't
+  counted : Counted (is_err result) f f'
+  counted = elim o [
+    | inl none ↦ subst (λ (b : Bool). Counted b f f') (sym none.0) (omega (arith, none.1.faults))
+    | inr done ↦ raised_where (is_err result) done.0.faults
   ]
+    where
+      raised_where : (failed : Bool) → f' ≡ cond failed (raised f) f → Counted failed f f'
+      raised_where true is = omega (arith, is)
+      raised_where false is = is
 
   step : (image journal image' journal' : List ℕ) (a b : Faults) → image' ≡ image → journal' ≡ journal → NoFewer a b → (f' ≡ f → b ≡ a)
       → Step call bytes (is_err result) (record { image = image; journal = journal; calls = log.calls.items }) (record { image = image'; journal = journal'; calls = log'.calls.items }) a b (told_by log) (told_by log') content now made
@@ -109,10 +115,10 @@ module _ (call : Call) (bytes : List ℕ) {T : Type 0} (result : Result T Failed
     told = accounts _ _ a b same (λ c. history_is _ _ _ _ _ _ i j c);
   }
 
--- A call on a file: the step, from what reads gave of that file; and its count rose where it failed.
+-- A call on a file: the step, from what reads gave of that file; and its count alone rose where it failed.
 pub record FileStep (f : File) (call : Call) (bytes : List ℕ) (failed : Bool) (old new : History) (a b : Faults) (t u : Told) (now : List ℕ) (make : List ℕ → List ℕ) : Type 0 where
   pub step : Step call bytes failed old new a b t u (disk_now old f).seen now (make (disk_now old f).seen)
-  pub rose : failed ≡ true → Rose (faults_of (state_of old a) f) (faults_of (state_of new b) f)
+  pub counts : FaultsAt (cond failed (Some (device_of f)) None) (state_of old a) (state_of new b)
 
 module _ (f : File) (call : Call) (bytes : List ℕ) {T : Type 0} (result : Result T Failed) (log log' : Log) (make : List ℕ → List ℕ) where
   pub image_step : (image image' journal : Content) (output : ℕ) {journal_bytes said : List ℕ} → f ≡ Image → IsKept (history image journal log) image.bytes.items journal_bytes said → image'.first ≡ image.first
@@ -124,7 +130,7 @@ module _ (f : File) (call : Call) (bytes : List ℕ) {T : Type 0} (result : Resu
             (step call bytes result log log' image.faults image'.faults _ _ _ o image.first.items journal.first.items image'.first.items journal.first.items _ _ (ap (λ v. v.items) first) refl
             (record { image = no_less call bytes result log log' image.faults image'.faults _ _ _ o; journal = omega arith; output = omega arith })
             (ap (λ (n : ℕ). let s : Faults = record { image = n; journal = journal.faults; output = output } in s)));
-        rose = rose call bytes result log log' image.faults image'.faults _ _ _ o;
+        counts = image_counts (is_err result) _ _ (counted call bytes result log log' image.faults image'.faults _ _ _ o) refl refl;
       } in
       subst (λ (f : File). FileStep f call bytes (is_err result) (history image journal log) (history image' journal log') (faults image journal output) (faults image' journal output) (told_by log) (told_by log') image'.bytes.items make) (sym is) at
 
@@ -137,7 +143,7 @@ module _ (f : File) (call : Call) (bytes : List ℕ) {T : Type 0} (result : Resu
             (step call bytes result log log' journal.faults journal'.faults _ _ _ o image.first.items journal.first.items image.first.items journal'.first.items _ _ refl (ap (λ v. v.items) first)
             (record { image = omega arith; journal = no_less call bytes result log log' journal.faults journal'.faults _ _ _ o; output = omega arith })
             (ap (λ (n : ℕ). let s : Faults = record { image = image.faults; journal = n; output = output } in s)));
-        rose = rose call bytes result log log' journal.faults journal'.faults _ _ _ o;
+        counts = journal_counts (is_err result) _ _ refl (counted call bytes result log log' journal.faults journal'.faults _ _ _ o) refl;
       } in
       subst (λ (f : File). FileStep f call bytes (is_err result) (history image journal log) (history image journal' log') (faults image journal output) (faults image journal' output) (told_by log) (told_by log') journal'.bytes.items make) (sym is) at
 
@@ -264,10 +270,6 @@ leaves_other f failed old new a b now made c = record {
   file = known_is new b (other f) ∙ ap Some c.rest ∙ sym (known_is old a (other f));
   said = ap Some c.said;
 }
-
-pub has_cause : (f : File) {T : Type 0} (result : Result T Failed) (s t : State) → (is_err result ≡ true → Rose (faults_of s f) (faults_of t f)) → HasCause f s t result
-has_cause f (Ok x) s t rose = _
-has_cause f (Err x) s t rose = rose refl
 
 -- a call that says nothing
 passes_file : (call : Call) (bytes : List ℕ) (failed : Bool) (old new : History) (a b : Faults) (within : Instant) → saying call bytes ≡ [] → (new ≡ old) ⊎ Added call bytes failed old new → NoFewer a b

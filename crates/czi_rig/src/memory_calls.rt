@@ -4,7 +4,8 @@ ghost use Rattle.std.specs.Option.{ForSome};
 ghost use Rattle.czi_rig.specs.declared.file.File.{File};
 ghost use Rattle.czi_rig.specs.Disk.{Torn, TornCut, overwritten, begun_write, begun_cut, settled};
 ghost use Rattle.czi_rig.specs.State.{known, seen_of, durable_of, MayLeave, MayLeaveSaying, SameAll, SameFiles, LeavesOther, Becomes, MayHaveBegun, SaysSome};
-ghost use Rattle.czi_rig.specs.Passes.{Passes, HasCause, Rose};
+ghost use Rattle.czi_rig.specs.Passes.{Passes};
+ghost use Rattle.czi_rig.specs.Faults.{Faults, device_of, failed_at, output};
 ghost use Rattle.czi_rig.specs.MemRig.{history_of, faults_in, state_in, left_in, FailsAsTold};
 ghost use Rattle.czi_rig.specs.Laws.{counts_now_of, only_now_of, reads_now_of};
 
@@ -26,7 +27,7 @@ impl Rig for MemRig {
         ensures bound { IfOk result (λ n. n ≤ 2 ^ 62) }
         ensures length { IfOk result (λ n. ForSome (seen_of (state_in self.old) f) (λ seen. n ≡ length seen)) }
         ensures same { SameAll (state_in self.old) (state_in self.new) }
-        ensures cause { HasCause f (state_in self.old) (state_in self.new) result }
+        ensures cause { Faults (failed_at result (device_of f)) (state_in self.old) (state_in self.new) }
         ensures time { Passes (state_in self.old) (state_in self.new) (left_in self.old) (left_in self.new) (MayLeave (state_in self.old)) }
         ensures told { FailsAsTold (Call.Len f) (is_err result) self.old self.new }
     {
@@ -42,7 +43,7 @@ impl Rig for MemRig {
         requires in_file { ForSome (seen_of (state_in self.old) f) (λ seen. at + length into.old ≤ length seen) }
         ensures bytes { OnOk result (ForSome (seen_of (state_in self.old) f) (λ seen. into.new ≡ take (length into.old) (drop at seen))) }
         ensures same { SameAll (state_in self.old) (state_in self.new) }
-        ensures cause { HasCause f (state_in self.old) (state_in self.new) result }
+        ensures cause { Faults (failed_at result (device_of f)) (state_in self.old) (state_in self.new) }
         ensures time { Passes (state_in self.old) (state_in self.new) (left_in self.old) (left_in self.new) (MayLeave (state_in self.old)) }
         ensures told { FailsAsTold (Call.Read f at (length into.old)) (is_err result) self.old self.new }
     {
@@ -62,7 +63,7 @@ impl Rig for MemRig {
         ensures begun { OnOk result (durable_of (state_in self.new) f ≡ option_map (begun_write at (length bytes.now)) (durable_of (state_in self.old) f)) }
         ensures failed { OnErr result (MayHaveBegun (begun_write at (length bytes.now)) (known (state_in self.old) f) (known (state_in self.new) f)) }
         ensures other { LeavesOther f (state_in self.old) (state_in self.new) }
-        ensures cause { HasCause f (state_in self.old) (state_in self.new) result }
+        ensures cause { Faults (failed_at result (device_of f)) (state_in self.old) (state_in self.new) }
         ensures time { Passes (state_in self.old) (state_in self.new) (left_in self.old) (left_in self.new) (MayLeave (state_in self.new)) }
         ensures told { FailsAsTold (Call.Write f at (length bytes.now)) (is_err result) self.old self.new }
     {
@@ -82,7 +83,7 @@ impl Rig for MemRig {
         ensures begun { OnOk result (durable_of (state_in self.new) f ≡ option_map (begun_cut len) (durable_of (state_in self.old) f)) }
         ensures failed { OnErr result (MayHaveBegun (begun_cut len) (known (state_in self.old) f) (known (state_in self.new) f)) }
         ensures other { LeavesOther f (state_in self.old) (state_in self.new) }
-        ensures cause { HasCause f (state_in self.old) (state_in self.new) result }
+        ensures cause { Faults (failed_at result (device_of f)) (state_in self.old) (state_in self.new) }
         ensures time { Passes (state_in self.old) (state_in self.new) (left_in self.old) (left_in self.new) (MayLeave (state_in self.new)) }
         ensures told { FailsAsTold (Call.Cut f len) (is_err result) self.old self.new }
     {
@@ -99,7 +100,7 @@ impl Rig for MemRig {
         ensures synced { OnOk result (durable_of (state_in self.new) f ≡ option_map settled (seen_of (state_in self.old) f)) }
         ensures failed { OnErr result (durable_of (state_in self.new) f ≡ durable_of (state_in self.old) f) }
         ensures other { LeavesOther f (state_in self.old) (state_in self.new) }
-        ensures cause { HasCause f (state_in self.old) (state_in self.new) result }
+        ensures cause { Faults (failed_at result (device_of f)) (state_in self.old) (state_in self.new) }
         ensures time { Passes (state_in self.old) (state_in self.new) (left_in self.old) (left_in self.new) (MayLeave (state_in self.old)) }
         ensures told { FailsAsTold (Call.Sync f) (is_err result) self.old self.new }
     {
@@ -113,7 +114,7 @@ impl Rig for MemRig {
     fn say(&mut self, bytes: &[u8]) -> Result<(), Failed>
         ensures said { SaysSome (state_in self.old) (state_in self.new) bytes.now result }
         ensures files { SameFiles (state_in self.old) (state_in self.new) }
-        ensures cause { OnErr result (Rose (state_in self.old).output_faults (state_in self.new).output_faults) }
+        ensures cause { Faults (failed_at result output) (state_in self.old) (state_in self.new) }
         ensures time { Passes (state_in self.old) (state_in self.new) (left_in self.old) (left_in self.new) (MayLeaveSaying (state_in self.old) bytes.now) }
         ensures told { FailsAsTold Call.Say (is_err result) self.old self.new }
     {

@@ -54,7 +54,7 @@ impl Source for MemSource {
     ghost use Rattle.std.specs.Option.{ForSome};
     ghost use Rattle.czi_rig.specs.MemSource.{input_in, orders_in};
     ghost use Rattle.czi_rig.specs.Source.{Takes, Obeys};
-    ghost use Rattle.czi_rig.specs.Passes.{Rose};
+    ghost use Rattle.czi_rig.specs.Faults.{Counted};
 
     ghost input = { input_in };
 
@@ -65,7 +65,7 @@ impl Source for MemSource {
         ensures kept { OnErr result ((input_in self.new).left ≡ (input_in self.old).left) }
         ensures told { is_some (input_in self.new).left ≡ is_some (input_in self.old).left }
         ensures later { (input_in self.old).faults ≤ (input_in self.new).faults }
-        ensures cause { OnErr result (Rose (input_in self.old).faults (input_in self.new).faults) }
+        ensures cause { Counted (is_err result) (input_in self.old).faults (input_in self.new).faults }
         ensures obeys { Obeys (is_err result) (orders_in self.old) (orders_in self.new) (input_in self.old).faults (input_in self.new).faults }
     {
         let number = self.calls;

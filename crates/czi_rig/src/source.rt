@@ -1,7 +1,7 @@
-ghost use Rattle.std.specs.Prelude.{◌≡◌, ◌<◌, ◌≤◌, length, is_some, IfOk, OnErr};
+ghost use Rattle.std.specs.Prelude.{◌≡◌, ◌<◌, ◌≤◌, length, is_some, is_err, IfOk, OnErr};
 ghost use Rattle.std.specs.Option.{ForSome};
 ghost use Rattle.czi_rig.specs.Source.{Input, Takes};
-ghost use Rattle.czi_rig.specs.Passes.{Rose};
+ghost use Rattle.czi_rig.specs.Faults.{Counted};
 
 use crate::Failed;
 
@@ -12,6 +12,7 @@ pub trait Source {
 
     /// Takes some of the bytes that are left, from the front, into the front of `into`, and answers how many. An answer
     /// of 0 is the end of the input. A call that answers `Failed` has taken nothing; what `into` then holds is not said.
+    /// It has raised the count of faults, and one that answers `Ok` has not.
     fn take(&mut self, into: &mut [u8]) -> Result<usize, Failed>
         requires { 0 < length into.old }
         ensures bound { IfOk result (λ n. n ≤ length into.old) }
@@ -19,5 +20,5 @@ pub trait Source {
         ensures kept { OnErr result ((input self.new).left ≡ (input self.old).left) }
         ensures told { is_some (input self.new).left ≡ is_some (input self.old).left }
         ensures later { (input self.old).faults ≤ (input self.new).faults }
-        ensures cause { OnErr result (Rose (input self.old).faults (input self.new).faults) };
+        ensures cause { Counted (is_err result) (input self.old).faults (input self.new).faults };
 }
