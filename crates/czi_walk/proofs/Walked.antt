@@ -14,8 +14,9 @@ use Rattle.czi_rig.specs.declared.file.File.TheVariants.{Image, Journal}
 use Rattle.czi_rig.specs.declared.rig.Rig.{Ghosts}
 use Rattle.czi_rig.specs.Disk.{Disk}
 use Rattle.czi_rig.specs.State.{State, SameAll, seen_of}
-use Rattle.czi_rig.specs.Passes.{Rose}
+use Rattle.czi_rig.specs.Faults.{Faults}
 use Rattle.czi_rig.specs.Quiet.{Untouched}
+use Rattle.czi_rig.proofs.Faults.{no_faults, faults_then}
 use Rattle.czi_rig.proofs.Quiet.{untouched_here, untouched_then}
 use Rattle.czi_seg.specs.declared.header.SegHeader.{SegHeader}
 use Rattle.czi_spans.specs.Apart.{AreApart, first_of}
@@ -33,6 +34,7 @@ seen_before s t bytes same is = ap (option_map (λ (disk : Disk). disk.seen)) (s
 pub record Walked {D : Type 0} (rig : Ghosts D) (first now : D) (size place : ℕ) (found : List (CodeSpan × SegHeader)) : Type 0 where
   pub inside : place ≤ size
   pub untouched : Untouched rig first now
+  pub no_fault : Faults None (rig.state first) (rig.state now)
   pub extents : AllByRecursion HasExtent found
   pub ends : EndBy size found
   pub apart : (rest : List Span) → AreApart place rest → AreApart 0 (map first_of found ++ rest)
@@ -46,15 +48,12 @@ all_push : {X : Type 0} (P : X → Type 0) (xs : List X) (x : X) → AllByRecurs
 all_push P [] x all px = (px, tt)
 all_push P (y ∷ ys) x all px = (all.0, all_push P ys x all.1 px)
 
--- a count that rose later rose since before
-pub rose_since : (a b c : ℕ) → a ≤ b → Rose b c → Rose a c
-rose_since a b c le rose = omega (arith, rose)
-
 module _ {D : Type 0} (rig : Ghosts D) where
   pub walked_begins : (first : D) (size : ℕ) → Walked rig first first size 0 []
   walked_begins first size = record {
     inside = omega arith;
     untouched = untouched_here rig first;
+    no_fault = no_faults (rig.state first);
     extents = tt;
     ends = tt;
     apart = λ rest apart. apart;
@@ -67,12 +66,13 @@ module _ {D : Type 0} (rig : Ghosts D) where
   knows_now {first = first} {now = now} same knows = λ image is. knows image (seen_before (rig.state first) (rig.state now) image same.same is)
 
   -- one segment more
-  pub walked_more : {first now next : D} {size place : ℕ} {found : List (CodeSpan × SegHeader)} (item : CodeSpan × SegHeader) → Walked rig first now size place found → Untouched rig now next → IsNext place size item
+  pub walked_more : {first now next : D} {size place : ℕ} {found : List (CodeSpan × SegHeader)} (item : CodeSpan × SegHeader) → Walked rig first now size place found → Untouched rig now next → Faults None (rig.state now) (rig.state next) → IsNext place size item
       → ForSome (seen_of (rig.state now) Image) (λ image. Some (segment_of item) ≡ next_from (take size image) place)
       → Walked rig first next size (item.0.at + item.0.len) (found ++ item ∷ [])
-  walked_more {first = first} {now = now} {size = size} {found = found} item walked untouched goes next = record {
+  walked_more {first = first} {now = now} {next = after} {size = size} {found = found} item walked untouched no_fault goes next = record {
     inside = goes.inside;
     untouched = untouched_then rig walked.untouched untouched;
+    no_fault = faults_then None (rig.state first) (rig.state now) (rig.state after) walked.no_fault no_fault;
     extents = all_push HasExtent found item walked.extents goes.extent;
     ends = all_push (λ (i : CodeSpan × SegHeader). end_of (span_of i.0) ≤ size) found item walked.ends goes.inside;
     apart = λ rest apart. subst (AreApart 0) (shift first_of found item rest) (walked.apart (first_of item ∷ rest)

@@ -1,4 +1,4 @@
 pub mod View
-pub mod Causes
+pub mod Devices
 pub mod Marks
 pub mod Survey

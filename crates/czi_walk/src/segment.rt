@@ -6,7 +6,7 @@ ghost use Rattle.czi_format.specs.Bytes.{bytes_at};
 ghost use Rattle.czi_format.specs.Segment.{segment_at};
 ghost use Rattle.czi_format.specs.Walk.{stands_at, next_from};
 ghost use Rattle.czi_rig.specs.State.{seen_of};
-ghost use Rattle.czi_rig.specs.Passes.{HasCause};
+ghost use Rattle.czi_rig.specs.Faults.{Faults, device_of, failed_at};
 ghost use Rattle.czi_rig.specs.Quiet.{Untouched};
 ghost use Rattle.czi_walk.specs.View.{segment_of, IsRow, EndBy, IsAt, IsNext, Knows, named};
 
@@ -43,7 +43,7 @@ fn read_segment<R: Rig>(
     ensures found { IfOk result (λ found. ForSome (seen_of (R.state rig.old) File.Image) (λ image. option_map segment_of found ≡ segment_at (take size image) at)) }
     ensures place { IfOk result (λ found. IfSome found (IsAt at size)) }
     ensures untouched { Untouched R.Rig rig.old rig.new }
-    ensures cause { HasCause File.Image (R.state rig.old) (R.state rig.new) result }
+    ensures cause { Faults (failed_at result (device_of File.Image)) (R.state rig.old) (R.state rig.new) }
 {
     if size < 32 || size - 32 < at {
         return Ok(None);
@@ -81,7 +81,7 @@ fn stands_at<R: Rig>(
     ensures found { IfOk result (λ found. ForSome (seen_of (R.state rig.old) File.Image) (λ image. option_map segment_of found ≡ stands_at (take size image) at)) }
     ensures place { IfOk result (λ found. IfSome found (IsAt at size)) }
     ensures untouched { Untouched R.Rig rig.old rig.new }
-    ensures cause { HasCause File.Image (R.state rig.old) (R.state rig.new) result }
+    ensures cause { Faults (failed_at result (device_of File.Image)) (R.state rig.old) (R.state rig.new) }
 {
     match find_place(known, at) {
         Some(i) => Ok(named(Some(known[i]))),
@@ -104,7 +104,7 @@ pub(crate) fn next_from<R: Rig>(
     ensures found { IfOk result (λ found. ForSome (seen_of (R.state rig.old) File.Image) (λ image. option_map segment_of found ≡ next_from (take size image) place)) }
     ensures place { IfOk result (λ found. IfSome found (IsNext place size)) }
     ensures untouched { Untouched R.Rig rig.old rig.new }
-    ensures cause { HasCause File.Image (R.state rig.old) (R.state rig.new) result }
+    ensures cause { Faults (failed_at result (device_of File.Image)) (R.state rig.old) (R.state rig.new) }
 {
     match stands_at(rig, known, place, size)? {
         Some(item) => Ok(Some(item)),

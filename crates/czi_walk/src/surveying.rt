@@ -8,7 +8,8 @@ ghost use Rattle.czi_num.specs.Span.{span_of};
 ghost use Rattle.czi_rig.specs.State.{seen_of};
 ghost use Rattle.czi_rig.specs.Quiet.{Untouched};
 ghost use Rattle.czi_spans.specs.Apart.{first_of};
-ghost use Rattle.czi_walk.specs.Causes.{WalksFor};
+ghost use Rattle.czi_rig.specs.Faults.{Faults, fault_at};
+ghost use Rattle.czi_walk.specs.Devices.{walk_device};
 ghost use Rattle.czi_walk.specs.Marks.{AreLive};
 ghost use Rattle.czi_walk.specs.Survey.{Shows, AreFree};
 ghost use Rattle.czi_walk.specs.View.{segment_of, IsRow, EndBy, Knows};
@@ -69,7 +70,7 @@ pub fn walk_and_mark<R: Rig>(
     ensures free { IfOk result (λ s. AreFree length spans.now s.extents.items) }
     ensures ends { IfOk result (λ s. s.walk_end ≤ length) }
     ensures untouched { Untouched R.Rig rig.old rig.new }
-    ensures cause { WalksFor (R.state rig.old) (R.state rig.new) result }
+    ensures cause { Faults (fault_at walk_device result) (R.state rig.old) (R.state rig.new) }
 {
     let walk = walk_known(alloc, rig, length, live)?;
     let extents = deleted_extents(alloc, &walk, spans)?;

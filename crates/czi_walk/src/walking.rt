@@ -5,7 +5,8 @@ ghost use Rattle.std.specs.Option.{ForSome};
 ghost use Rattle.czi_format.specs.Walk.{IsWalk};
 ghost use Rattle.czi_rig.specs.State.{seen_of};
 ghost use Rattle.czi_rig.specs.Quiet.{Untouched};
-ghost use Rattle.czi_walk.specs.Causes.{WalksFor};
+ghost use Rattle.czi_rig.specs.Faults.{Faults, fault_at};
+ghost use Rattle.czi_walk.specs.Devices.{walk_device};
 ghost use Rattle.czi_walk.specs.View.{segment_of, IsRow, EndBy, HasBytes, Knows};
 
 use crate::fault::WalkFault;
@@ -35,7 +36,7 @@ pub fn walk<R: Rig>(
     ensures row { IfOk result (λ v. IsRow v.items) }
     ensures inside { IfOk result (λ v. EndBy length v.items) }
     ensures untouched { Untouched R.Rig rig.old rig.new }
-    ensures cause { WalksFor (R.state rig.old) (R.state rig.new) result }
+    ensures cause { Faults (fault_at walk_device result) (R.state rig.old) (R.state rig.new) }
 {
     walk_known(alloc, rig, length, &[])
 }
@@ -59,7 +60,7 @@ pub fn walk_known<R: Rig>(
     ensures row { IfOk result (λ v. IsRow v.items) }
     ensures inside { IfOk result (λ v. EndBy length v.items) }
     ensures untouched { Untouched R.Rig rig.old rig.new }
-    ensures cause { WalksFor (R.state rig.old) (R.state rig.new) result }
+    ensures cause { Faults (fault_at walk_device result) (R.state rig.old) (R.state rig.new) }
 {
     let mut found = Vec::new(alloc);
     let mut place = 0;
