@@ -23,7 +23,8 @@ use Rattle.czi_seg.specs.declared.file_header.HeaderFault.{HeaderFault}
 use Rattle.czi_seg.specs.declared.file_header.HeaderFault.TheVariants.{Short, BadId, BadSizes, MultiPart}
 use Rattle.czi_image.specs.Windows.{front_within}
 use Rattle.czi_image.specs.Rules.{first_rules_in, fault_of}
-use Rattle.czi_image.specs.Faults.{Tells, IsNoDevice}
+use Rattle.czi_image.specs.Devices.{image_device}
+use Rattle.czi_image.specs.Faults.{Tells}
 use Rattle.czi_image.specs.View.{header_fields_of}
 use Rattle.czi_image.proofs.Windows.{i32_in_window, i64_in_window, front_of_window}
 use Rattle.czi_format.proofs.Local.{part_of_part}
@@ -169,8 +170,8 @@ header_refused front n (MultiPart part) head (h, is, part_is) refused here fits 
     by_rules front n h (i32_at front 100) is (omega (arith, fits, ap (λ (z : Segment). z.allocated) own)) refl
     ∙ rw no (ap (λ (z : ℤ). let r : Result FileHeader Refusal = Err (refusals.multi_part z) in r) part_is)
 
-pub told_own : (f : HeaderFault) → IsNoDevice (fault_of f)
-told_own Short = tt
-told_own BadId = tt
-told_own BadSizes = tt
-told_own (MultiPart part) = tt
+pub told_own : (f : HeaderFault) → image_device (fault_of f) ≡ None
+told_own Short = refl
+told_own BadId = refl
+told_own BadSizes = refl
+told_own (MultiPart part) = refl

@@ -6,6 +6,7 @@ use Rattle.std.specs.List.{AllByRecursion}
 use Rattle.czi_rig.specs.declared.rig.Rig.{Ghosts}
 use Rattle.czi_rig.specs.declared.file.File.TheVariants.{Image}
 use Rattle.czi_rig.specs.State.{seen_of}
+use Rattle.czi_rig.specs.Faults.{Faults}
 use Rattle.czi_rig.specs.Quiet.{Untouched}
 use Rattle.czi_format.specs.FirstFault as fault
 use Rattle.czi_format.specs.FirstFault.{each, one_after_another, with_fault}
@@ -114,6 +115,7 @@ half_ends {X} {Y} {E} {C} {D} {read} {told} {from} {view} {all} {n} {done} h end
 -- the same of a list whose items are read over a rig, which is left as it was
 pub record ReadsEach {R X Y E C D : Type 0} (rig : Ghosts R) (first now : R) (read : List ℕ → X → Option Y) (told : X → E) (from : C → X) (view : D → Y) (P : D → Type 0) (all : List C) (n : ℕ) (done : List D) : Type 0 where
   pub untouched : Untouched rig first now
+  pub no_fault : Faults None (rig.state first) (rig.state now)
   pub within : AllByRecursion P done
   pub so_many : length done ≡ n
   pub half : ForSome (seen_of (rig.state first) Image) (λ image. Half (read image) told from view all n done)

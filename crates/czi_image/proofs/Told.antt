@@ -1,16 +1,15 @@
 -- Faults from one call to the next.
-use Rattle.std.proofs.Common.{◌≡◌, ℕ, ◌≤◌, List, Result, Ok, Err, ap, ◌∙◌, arith, subst, sym, option_map, Some}
+use Rattle.std.proofs.Common.{◌≡◌, ℕ, List, Result, Ok, Err, ap, ◌∙◌, subst, sym, option_map, Some}
 use Rattle.std.specs.Prelude.{IfOk, IfErr}
 use Rattle.czi_rig.specs.declared.file.File.{File}
 use Rattle.czi_rig.specs.declared.file.File.TheVariants.{Image, Journal}
 use Rattle.czi_rig.specs.Disk.{Disk}
 use Rattle.czi_rig.specs.State.{State, SameAll, seen_of}
-use Rattle.czi_rig.specs.Passes.{GoesOn, Rose}
 use Rattle.czi_format.specs.FirstFault.{◌>>=◌}
 use Rattle.czi_format.specs.Refusals.{Refusal}
 use Rattle.czi_image.specs.declared.fault.ImageFault.{ImageFault}
 use Rattle.czi_image.specs.declared.fault.ImageFault.TheVariants.{NotCzi, MultiPart, Pending, BadDirectory, TooMany, BadEntry, BadSegment, BadAttachment, Overlap, Memory, Device}
-use Rattle.czi_image.specs.Faults.{Tells, HasRisen, IsNoDevice, IsOnlyCalls}
+use Rattle.czi_image.specs.Faults.{Tells, IsOnlyCalls}
 
 err_first : {A B E : Type 0} (r : Result A E) (f : A → Result B E) (e : E) → r ≡ Err e → r >>= f ≡ Err e
 err_first r f e is = rw is
@@ -45,36 +44,6 @@ only_calls r (BadAttachment place) c = absurd c
 only_calls r (Overlap first second) c = absurd c
 only_calls r Memory c = tt
 only_calls r Device c = tt
-
-pub no_device : (old new : State) (fault : ImageFault) → IsNoDevice fault → HasRisen old new fault
-no_device old new NotCzi c = tt
-no_device old new (MultiPart part) c = tt
-no_device old new (Pending value) c = tt
-no_device old new (BadDirectory place) c = tt
-no_device old new (TooMany place count) c = tt
-no_device old new (BadEntry place) c = tt
-no_device old new (BadSegment place) c = tt
-no_device old new (BadAttachment place) c = tt
-no_device old new (Overlap first second) c = tt
-no_device old new Memory c = tt
-no_device old new Device c = absurd c
-
--- what rose since a later moment rose since an earlier one
-pub rose_since : (old mid new : ℕ) → old ≤ mid → Rose mid new → Rose old new
-rose_since old mid new le rose = omega (arith, le, rose)
-
-pub risen_since : (old mid new : State) (fault : ImageFault) → GoesOn old mid → HasRisen mid new fault → HasRisen old new fault
-risen_since old mid new NotCzi on c = tt
-risen_since old mid new (MultiPart part) on c = tt
-risen_since old mid new (Pending value) on c = tt
-risen_since old mid new (BadDirectory place) on c = tt
-risen_since old mid new (TooMany place count) on c = tt
-risen_since old mid new (BadEntry place) on c = tt
-risen_since old mid new (BadSegment place) on c = tt
-risen_since old mid new (BadAttachment place) on c = tt
-risen_since old mid new (Overlap first second) on c = tt
-risen_since old mid new Memory on c = tt
-risen_since old mid new Device on c = rose_since _ _ _ on.image_faults c
 
 pub ok_weaker : {A E : Type 0} (r : Result A E) (P Q : A → Type 0) → ((x : A) → P x → Q x) → IfOk r P → IfOk r Q
 ok_weaker (Ok x) P Q h p = h x p

@@ -1,7 +1,5 @@
--- What a fault tells of the image, and of the rig.
+-- What a fault tells of the image.
 use Rattle.std.specs.Prelude.{◌≡◌, ℕ, List, Result, Err}
-use Rattle.czi_rig.specs.State.{State}
-use Rattle.czi_rig.specs.Passes.{Rose}
 use Rattle.czi_format.specs.Refusals as refusals
 use Rattle.czi_format.specs.Refusals.{Refusal, reading}
 use Rattle.czi_num.specs.Span.{span_of}
@@ -25,34 +23,6 @@ Tells answer Device = Unit {0}
 -- the fault tells the first rule of reading that fails
 abbrev pub Refuses : List ℕ → ImageFault → Type 0
 Refuses image fault = Tells (reading image) fault
-
--- a call fails only where the count of the image's faults rose
-abbrev pub HasRisen : State → State → ImageFault → Type 0
-HasRisen old new NotCzi = Unit {0}
-HasRisen old new (MultiPart part) = Unit {0}
-HasRisen old new (Pending value) = Unit {0}
-HasRisen old new (BadDirectory place) = Unit {0}
-HasRisen old new (TooMany place count) = Unit {0}
-HasRisen old new (BadEntry place) = Unit {0}
-HasRisen old new (BadSegment place) = Unit {0}
-HasRisen old new (BadAttachment place) = Unit {0}
-HasRisen old new (Overlap first second) = Unit {0}
-HasRisen old new Memory = Unit {0}
-HasRisen old new Device = Rose old.image_faults new.image_faults
-
--- no call failed
-abbrev pub IsNoDevice : ImageFault → Type 0
-IsNoDevice NotCzi = Unit {0}
-IsNoDevice (MultiPart part) = Unit {0}
-IsNoDevice (Pending value) = Unit {0}
-IsNoDevice (BadDirectory place) = Unit {0}
-IsNoDevice (TooMany place count) = Unit {0}
-IsNoDevice (BadEntry place) = Unit {0}
-IsNoDevice (BadSegment place) = Unit {0}
-IsNoDevice (BadAttachment place) = Unit {0}
-IsNoDevice (Overlap first second) = Unit {0}
-IsNoDevice Memory = Unit {0}
-IsNoDevice Device = ⊥
 
 -- only a call failed, or memory was wanting: the image is refused by no rule
 abbrev pub IsOnlyCalls : ImageFault → Type 0

@@ -1,5 +1,6 @@
 pub mod Windows
 pub mod View
+pub mod Devices
 pub mod Faults
 pub mod Entries
 pub mod Rules

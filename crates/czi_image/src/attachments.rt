@@ -5,7 +5,7 @@ ghost use Rattle.std.specs.Option.{ForSome};
 ghost use Rattle.std.specs.List.{AllByRecursion};
 ghost use Rattle.czi_rig.specs.declared.file.File.TheVariants.{Image};
 ghost use Rattle.czi_rig.specs.State.{seen_of};
-ghost use Rattle.czi_rig.specs.Passes.{HasCause};
+ghost use Rattle.czi_rig.specs.Faults.{Faults, device_of, failed_at, fault_at};
 ghost use Rattle.czi_rig.specs.Quiet.{Untouched};
 ghost use Rattle.czi_format.specs.Segment.{attachment_id};
 ghost use Rattle.czi_format.specs.Live.{att_item};
@@ -13,7 +13,8 @@ ghost use Rattle.czi_format.specs.Shows.{attachment_at};
 ghost use Rattle.czi_format.specs.Refusals.{attachment_rules};
 ghost use Rattle.czi_att.specs.View.{a1_of};
 ghost use Rattle.czi_doc.specs.View.{att_of};
-ghost use Rattle.czi_image.specs.Faults.{HasRisen, Tells};
+ghost use Rattle.czi_image.specs.Devices.{image_device};
+ghost use Rattle.czi_image.specs.Faults.{Tells};
 ghost use Rattle.czi_image.specs.Inside.{HoldsEntries, AttItemEnds, AttachmentsWithin};
 ghost use Rattle.czi_image.specs.Rules.{attached_rules, item_rules};
 ghost use Rattle.czi_image.specs.View.{att_item_of, attachments_of, directory_of};
@@ -78,7 +79,7 @@ fn read_attachment<R: Rig>(
     ensures found { IfOk result (λ o. ForSome (seen_of (R.state rig.old) Image) (λ image. option_map att_item_of o ≡ attachment_at image (a1_of entry))) }
     ensures inside { IfOk result (λ o. IfSome o (AttItemEnds size)) }
     ensures untouched { Untouched R.Rig rig.old rig.new }
-    ensures cause { HasCause Image (R.state rig.old) (R.state rig.new) result }
+    ensures cause { Faults (failed_at result (device_of Image)) (R.state rig.old) (R.state rig.new) }
 {
     let (info, position) = entry;
     match read_front(rig, position, 288, size)? {
@@ -101,7 +102,7 @@ fn read_each<R: Rig>(
     ensures len { IfOk result (λ items. vec_len items ≡ vec_len entries) }
     ensures refused { IfErr result (λ fault. ForSome (seen_of (R.state rig.old) Image) (λ image. Tells (item_rules image (map a1_of entries.items)) fault)) }
     ensures untouched { Untouched R.Rig rig.old rig.new }
-    ensures cause { IfErr result (HasRisen (R.state rig.old) (R.state rig.new)) }
+    ensures cause { Faults (fault_at image_device result) (R.state rig.old) (R.state rig.new) }
 {
     let mut items = Vec::new(alloc);
     for entry in entries {
@@ -129,7 +130,7 @@ fn read_attached<R: Rig>(
     ensures len { IfOk result (λ items. vec_len items ≡ directory.now.count) }
     ensures refused { IfErr result (λ fault. ForSome (seen_of (R.state rig.old) Image) (λ image. Tells (attached_rules image (Some (directory_of directory.now))) fault)) }
     ensures untouched { Untouched R.Rig rig.old rig.new }
-    ensures cause { IfErr result (HasRisen (R.state rig.old) (R.state rig.new)) }
+    ensures cause { Faults (fault_at image_device result) (R.state rig.old) (R.state rig.new) }
 {
     let bytes = read_a1_entries(alloc, rig, directory)?;
     let place = directory.segment.span.at + 288;
@@ -152,7 +153,7 @@ pub(crate) fn read_attachments<R: Rig>(
     ensures inside { IfOk result (AttachmentsWithin size) }
     ensures refused { IfErr result (λ fault. ForSome (seen_of (R.state rig.old) Image) (λ image. Tells (attachment_rules image position) fault)) }
     ensures untouched { Untouched R.Rig rig.old rig.new }
-    ensures cause { IfErr result (HasRisen (R.state rig.old) (R.state rig.new)) }
+    ensures cause { Faults (fault_at image_device result) (R.state rig.old) (R.state rig.new) }
 {
     let directory = match read_attachment_directory(rig, position, size) {
         Ok(Some(Some(directory))) => directory,

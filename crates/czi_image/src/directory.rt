@@ -4,7 +4,7 @@ ghost use Rattle.std.specs.Prelude.{◌≡◌, ◌+◌, ◌*◌, ◌^◌, ◌≤
 ghost use Rattle.std.specs.Option.{ForSome};
 ghost use Rattle.czi_rig.specs.declared.file.File.TheVariants.{Image};
 ghost use Rattle.czi_rig.specs.State.{seen_of};
-ghost use Rattle.czi_rig.specs.Passes.{HasCause};
+ghost use Rattle.czi_rig.specs.Faults.{Faults, device_of, failed_at};
 ghost use Rattle.czi_rig.specs.Quiet.{Untouched};
 ghost use Rattle.czi_format.specs.Partial.{none_or};
 ghost use Rattle.czi_format.specs.Segment.{attdir_id, directory_id, in_segment};
@@ -79,7 +79,7 @@ fn directory_at<R: Rig>(rig: &mut R, position: i64, size: u64) -> Result<Option<
     ensures found { IfOk result (λ o. ForSome (seen_of (R.state rig.old) Image) (λ image. option_map directory_of o ≡ in_segment image directory_id position directory)) }
     ensures inside { IfOk result (λ o. IfSome o (IsWithin size)) }
     ensures untouched { Untouched R.Rig rig.old rig.new }
-    ensures cause { HasCause Image (R.state rig.old) (R.state rig.new) result }
+    ensures cause { Faults (failed_at result (device_of Image)) (R.state rig.old) (R.state rig.new) }
 {
     match read_front(rig, position, 160, size)? {
         None => Ok(None),
@@ -98,7 +98,7 @@ fn attachment_directory_at<R: Rig>(
     ensures found { IfOk result (λ o. ForSome (seen_of (R.state rig.old) Image) (λ image. option_map directory_of o ≡ in_segment image attdir_id position attachment_directory)) }
     ensures inside { IfOk result (λ o. IfSome o (HoldsEntries size)) }
     ensures untouched { Untouched R.Rig rig.old rig.new }
-    ensures cause { HasCause Image (R.state rig.old) (R.state rig.new) result }
+    ensures cause { Faults (failed_at result (device_of Image)) (R.state rig.old) (R.state rig.new) }
 {
     match read_front(rig, position, 288, size)? {
         None => Ok(None),
@@ -118,7 +118,7 @@ pub(crate) fn read_directory<R: Rig>(
     ensures found { IfOk result (λ o. ForSome (seen_of (R.state rig.old) Image) (λ image. option_map (option_map directory_of) o ≡ none_or position (in_segment image directory_id position directory))) }
     ensures inside { IfOk result (λ o. IfSome o (λ d. IfSome d (IsWithin size))) }
     ensures untouched { Untouched R.Rig rig.old rig.new }
-    ensures cause { HasCause Image (R.state rig.old) (R.state rig.new) result }
+    ensures cause { Faults (failed_at result (device_of Image)) (R.state rig.old) (R.state rig.new) }
 {
     if position == 0 {
         return Ok(Some(None));
@@ -137,7 +137,7 @@ pub(crate) fn read_attachment_directory<R: Rig>(
     ensures found { IfOk result (λ o. ForSome (seen_of (R.state rig.old) Image) (λ image. option_map (option_map directory_of) o ≡ none_or position (in_segment image attdir_id position attachment_directory))) }
     ensures inside { IfOk result (λ o. IfSome o (λ d. IfSome d (HoldsEntries size))) }
     ensures untouched { Untouched R.Rig rig.old rig.new }
-    ensures cause { HasCause Image (R.state rig.old) (R.state rig.new) result }
+    ensures cause { Faults (failed_at result (device_of Image)) (R.state rig.old) (R.state rig.new) }
 {
     if position == 0 {
         return Ok(Some(None));

@@ -1,15 +1,17 @@
 //! The entries of the two directories.
 
-ghost use Rattle.std.specs.Prelude.{◌≡◌, ◌+◌, ◌-◌, ◌*◌, ◌^◌, ◌≤◌, min, map, length, option_map, vec_len, IfOk, IfErr, MatchOption};
+ghost use Rattle.std.specs.Prelude.{◌≡◌, ◌+◌, ◌-◌, ◌*◌, ◌^◌, ◌≤◌, min, map, length, option_map, vec_len, IfOk, IfErr, MatchOption, None};
 ghost use Rattle.std.specs.Option.{ForSome};
 ghost use Rattle.czi_rig.specs.State.{seen_of};
+ghost use Rattle.czi_rig.specs.Faults.{Faults, fault_at};
 ghost use Rattle.czi_rig.specs.Quiet.{Untouched};
 ghost use Rattle.czi_format.specs.Bytes.{bytes_at};
 ghost use Rattle.czi_format.specs.Entry.{a1, entry};
 ghost use Rattle.czi_att.specs.View.{a1_of};
 ghost use Rattle.czi_dv.specs.View.{entry_of};
 ghost use Rattle.czi_image.specs.Entries.{ReadsEntry};
-ghost use Rattle.czi_image.specs.Faults.{HasRisen, IsNoDevice, IsOnlyCalls, Tells};
+ghost use Rattle.czi_image.specs.Devices.{image_device};
+ghost use Rattle.czi_image.specs.Faults.{IsOnlyCalls, Tells};
 ghost use Rattle.czi_image.specs.Inside.{HoldsEntries, IsWithin};
 ghost use Rattle.czi_image.specs.Rules.{a1_rules, entry_rules};
 
@@ -33,7 +35,7 @@ fn read_piece<R: Rig>(alloc: Global, rig: &mut R, at: u64, len: u64) -> Result<V
     ensures len { IfOk result (λ bytes. vec_len bytes ≡ len) }
     ensures only { IfErr result IsOnlyCalls }
     ensures untouched { Untouched R.Rig rig.old rig.new }
-    ensures cause { IfErr result (HasRisen (R.state rig.old) (R.state rig.new)) }
+    ensures cause { Faults (fault_at image_device result) (R.state rig.old) (R.state rig.new) }
 {
     let mut bytes = vec![in alloc; 0u8; len as usize]?;
     match rig.read_at(File::Image, at, &mut bytes) {
@@ -56,7 +58,7 @@ pub(crate) fn read_entries<R: Rig>(
     ensures len { IfOk result (λ bytes. vec_len bytes ≤ directory.now.segment.head.allocated - 128) }
     ensures only { IfErr result IsOnlyCalls }
     ensures untouched { Untouched R.Rig rig.old rig.new }
-    ensures cause { IfErr result (HasRisen (R.state rig.old) (R.state rig.new)) }
+    ensures cause { Faults (fault_at image_device result) (R.state rig.old) (R.state rig.new) }
 {
     let reach = LONGEST_ENTRY * u64::from(directory.count);
     let len = (directory.segment.head.allocated - 128).min(reach);
@@ -85,7 +87,7 @@ pub(crate) fn take_entries(
     ensures found { IfOk result (λ es. entry_rules count place bytes.now ≡ Ok (map entry_of es.items)) }
     ensures len { IfOk result (λ es. vec_len es ≡ count) }
     ensures refused { IfErr result (Tells (entry_rules count place bytes.now)) }
-    ensures own { IfErr result IsNoDevice }
+    ensures own { fault_at image_device result ≡ None }
 {
     let mut entries = Vec::new(alloc);
     let mut rest = bytes;
@@ -117,7 +119,7 @@ pub(crate) fn read_a1_entries<R: Rig>(
     ensures len { IfOk result (λ bytes. vec_len bytes ≡ 128 * directory.now.count) }
     ensures only { IfErr result IsOnlyCalls }
     ensures untouched { Untouched R.Rig rig.old rig.new }
-    ensures cause { IfErr result (HasRisen (R.state rig.old) (R.state rig.new)) }
+    ensures cause { Faults (fault_at image_device result) (R.state rig.old) (R.state rig.new) }
 {
     read_piece(
         alloc,
@@ -149,7 +151,7 @@ pub(crate) fn take_a1_entries(
     ensures found { IfOk result (λ es. a1_rules count place bytes.now ≡ Ok (map a1_of es.items)) }
     ensures len { IfOk result (λ es. vec_len es ≡ count) }
     ensures refused { IfErr result (Tells (a1_rules count place bytes.now)) }
-    ensures own { IfErr result IsNoDevice }
+    ensures own { fault_at image_device result ≡ None }
 {
     let mut entries = Vec::new(alloc);
     let mut rest = bytes;

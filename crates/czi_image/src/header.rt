@@ -1,11 +1,13 @@
 //! The file header.
 
-ghost use Rattle.std.specs.Prelude.{◌≡◌, ◌^◌, ◌≤◌, length, IfOk, IfErr, OnOk};
+ghost use Rattle.std.specs.Prelude.{◌≡◌, ◌^◌, ◌≤◌, length, IfOk, IfErr, OnOk, None};
 ghost use Rattle.std.specs.Option.{ForSome};
 ghost use Rattle.czi_rig.specs.State.{seen_of};
+ghost use Rattle.czi_rig.specs.Faults.{Faults, fault_at};
 ghost use Rattle.czi_rig.specs.Quiet.{Untouched};
 ghost use Rattle.czi_format.specs.Refusals.{first_rules};
-ghost use Rattle.czi_image.specs.Faults.{HasRisen, IsNoDevice, Tells};
+ghost use Rattle.czi_image.specs.Devices.{image_device};
+ghost use Rattle.czi_image.specs.Faults.{Tells};
 ghost use Rattle.czi_image.specs.Holds.{IsSettled};
 ghost use Rattle.czi_image.specs.Rules.{first_rules_in, fault_of};
 ghost use Rattle.czi_image.specs.View.{file_header_of};
@@ -35,7 +37,7 @@ fn header_in(front: &[u8; 112], size: u64) -> Result<Header, ImageFault>
     ensures inside { IfOk result (λ h. h.span.len ≤ size) }
     ensures settled { OnOk result (IsSettled front.now) }
     ensures refused { IfErr result (Tells (first_rules_in front.now size)) }
-    ensures own { IfErr result IsNoDevice }
+    ensures own { fault_at image_device result ≡ None }
 {
     let Some(head) = read_header(&read_bytes(front, 0)) else {
         return Err(ImageFault::NotCzi)
@@ -67,7 +69,7 @@ pub(crate) fn read_header_at_front<R: Rig>(rig: &mut R, size: u64) -> Result<Hea
     ensures settled { OnOk result (ForSome (seen_of (R.state rig.old) File.Image) IsSettled) }
     ensures refused { IfErr result (λ fault. ForSome (seen_of (R.state rig.old) File.Image) (λ image. Tells (first_rules image) fault)) }
     ensures untouched { Untouched R.Rig rig.old rig.new }
-    ensures cause { IfErr result (HasRisen (R.state rig.old) (R.state rig.new)) }
+    ensures cause { Faults (fault_at image_device result) (R.state rig.old) (R.state rig.new) }
 {
     if size < 112 {
         return Err(ImageFault::NotCzi);

@@ -4,13 +4,14 @@ ghost use Rattle.std.specs.Prelude.{◌≡◌, ◌+◌, ◌^◌, ◌≤◌, leng
 ghost use Rattle.std.specs.Option.{ForSome};
 ghost use Rattle.czi_rig.specs.declared.file.File.TheVariants.{Image};
 ghost use Rattle.czi_rig.specs.State.{seen_of};
-ghost use Rattle.czi_rig.specs.Passes.{HasCause};
+ghost use Rattle.czi_rig.specs.Faults.{Faults, device_of, failed_at, fault_at};
 ghost use Rattle.czi_rig.specs.Quiet.{Untouched};
 ghost use Rattle.czi_format.specs.Segment.{in_segment, metadata_id};
 ghost use Rattle.czi_format.specs.Live.{meta_item};
 ghost use Rattle.czi_format.specs.Refusals.{metadata_rule};
 ghost use Rattle.czi_image.specs.Inside.{MetaItemEnds};
-ghost use Rattle.czi_image.specs.Faults.{HasRisen, Tells};
+ghost use Rattle.czi_image.specs.Devices.{image_device};
+ghost use Rattle.czi_image.specs.Faults.{Tells};
 ghost use Rattle.czi_image.specs.View.{meta_item_of};
 ghost use Rattle.czi_image.specs.Windows.{in_window};
 
@@ -57,7 +58,7 @@ fn metadata_at<R: Rig>(rig: &mut R, position: i64, size: u64) -> Result<Option<M
     ensures found { IfOk result (λ o. ForSome (seen_of (R.state rig.old) Image) (λ image. option_map meta_item_of o ≡ in_segment image metadata_id position meta_item)) }
     ensures inside { IfOk result (λ o. IfSome o (MetaItemEnds size)) }
     ensures untouched { Untouched R.Rig rig.old rig.new }
-    ensures cause { HasCause Image (R.state rig.old) (R.state rig.new) result }
+    ensures cause { Faults (failed_at result (device_of Image)) (R.state rig.old) (R.state rig.new) }
 {
     match read_front(rig, position, 288, size)? {
         None => Ok(None),
@@ -77,7 +78,7 @@ pub(crate) fn read_metadata<R: Rig>(
     ensures inside { IfOk result (λ o. IfSome o (MetaItemEnds size)) }
     ensures refused { IfErr result (λ fault. ForSome (seen_of (R.state rig.old) Image) (λ image. Tells (metadata_rule image position) fault)) }
     ensures untouched { Untouched R.Rig rig.old rig.new }
-    ensures cause { IfErr result (HasRisen (R.state rig.old) (R.state rig.new)) }
+    ensures cause { Faults (fault_at image_device result) (R.state rig.old) (R.state rig.new) }
 {
     if position == 0 {
         return Ok(None);

@@ -8,10 +8,12 @@ ghost use Rattle.czi_format.specs.Live.{segments};
 ghost use Rattle.czi_format.specs.Layout.{is_walked, layout};
 ghost use Rattle.czi_num.specs.Span.{span_of};
 ghost use Rattle.czi_rig.specs.State.{seen_of};
+ghost use Rattle.czi_rig.specs.Faults.{Faults, fault_at};
 ghost use Rattle.czi_rig.specs.Quiet.{Untouched};
 ghost use Rattle.czi_walk.specs.Survey.{Shows};
 ghost use Rattle.czi_walk.specs.View.{IsRow, segment_of};
-ghost use Rattle.czi_image.specs.Faults.{HasRisen, IsOnlyCalls, Refuses};
+ghost use Rattle.czi_image.specs.Devices.{image_device};
+ghost use Rattle.czi_image.specs.Faults.{IsOnlyCalls, Refuses};
 ghost use Rattle.czi_image.specs.Holds.{Holds, Indexes, LiesAs};
 ghost use Rattle.czi_image.specs.Inside.{LiveWithin};
 ghost use Rattle.czi_image.specs.Spans.{AreFree};
@@ -33,7 +35,7 @@ fn image_length<R: Rig>(rig: &mut R) -> Result<u64, ImageFault>
     ensures length { IfOk result (λ n. ForSome (seen_of (R.state rig.old) File.Image) (λ image. n ≡ length image)) }
     ensures only { IfErr result IsOnlyCalls }
     ensures untouched { Untouched R.Rig rig.old rig.new }
-    ensures cause { IfErr result (HasRisen (R.state rig.old) (R.state rig.new)) }
+    ensures cause { Faults (fault_at image_device result) (R.state rig.old) (R.state rig.new) }
 {
     match rig.len(File::Image) {
         Ok(length) => Ok(length),
@@ -85,7 +87,7 @@ pub fn read_index<R: Rig>(alloc: Global, rig: &mut R) -> Result<Index, ImageFaul
     ensures shown { IfOk result (λ x. ForSome (seen_of (R.state rig.old) File.Image) (λ image. Indexes image x)) }
     ensures refused { IfErr result (λ fault. ForSome (seen_of (R.state rig.old) File.Image) (λ image. Refuses image fault)) }
     ensures untouched { Untouched R.Rig rig.old rig.new }
-    ensures cause { IfErr result (HasRisen (R.state rig.old) (R.state rig.new)) }
+    ensures cause { Faults (fault_at image_device result) (R.state rig.old) (R.state rig.new) }
 {
     let length = image_length(rig)?;
     let live = read_live(alloc, rig, length)?;

@@ -4,9 +4,11 @@ ghost use Rattle.std.specs.Prelude.{◌≡◌, ◌^◌, ◌≤◌, length, IfOk,
 ghost use Rattle.std.specs.Option.{ForSome};
 ghost use Rattle.czi_rig.specs.declared.file.File.TheVariants.{Image};
 ghost use Rattle.czi_rig.specs.State.{seen_of};
+ghost use Rattle.czi_rig.specs.Faults.{Faults, fault_at};
 ghost use Rattle.czi_rig.specs.Quiet.{Untouched};
 ghost use Rattle.czi_format.specs.Refusals.{reads_but_overlap};
-ghost use Rattle.czi_image.specs.Faults.{HasRisen, Tells};
+ghost use Rattle.czi_image.specs.Devices.{image_device};
+ghost use Rattle.czi_image.specs.Faults.{Tells};
 ghost use Rattle.czi_image.specs.Holds.{IsSettled};
 ghost use Rattle.czi_image.specs.Inside.{LiveWithin};
 ghost use Rattle.czi_image.specs.View.{live_of};
@@ -43,7 +45,7 @@ pub(crate) fn read_live<R: Rig>(alloc: Global, rig: &mut R, size: u64) -> Result
     ensures settled { OnOk result (ForSome (seen_of (R.state rig.old) Image) IsSettled) }
     ensures refused { IfErr result (λ fault. ForSome (seen_of (R.state rig.old) Image) (λ image. Tells (reads_but_overlap image) fault)) }
     ensures untouched { Untouched R.Rig rig.old rig.new }
-    ensures cause { IfErr result (HasRisen (R.state rig.old) (R.state rig.new)) }
+    ensures cause { Faults (fault_at image_device result) (R.state rig.old) (R.state rig.new) }
 {
     let header = read_header_at_front(rig, size)?;
     let tiles = read_tiles(alloc, rig, header.file.directory, size)?;

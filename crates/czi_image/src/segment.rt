@@ -3,7 +3,7 @@
 ghost use Rattle.std.specs.Prelude.{◌≡◌, ◌+◌, ◌^◌, ◌≤◌, length, option_map, IfOk, IfSome, MatchOption};
 ghost use Rattle.std.specs.Option.{ForSome};
 ghost use Rattle.czi_rig.specs.State.{seen_of};
-ghost use Rattle.czi_rig.specs.Passes.{HasCause};
+ghost use Rattle.czi_rig.specs.Faults.{Faults, device_of, failed_at};
 ghost use Rattle.czi_rig.specs.Quiet.{Untouched};
 ghost use Rattle.czi_format.specs.Bytes.{i32_at};
 ghost use Rattle.czi_format.specs.Partial.{natural};
@@ -36,7 +36,7 @@ pub(crate) fn read_front<const N: usize, R: Rig>(
         MatchOption o (IsTooNear image least position) (λ f. IsFront image least N position f.at f.bytes))) }
     ensures room { IfOk result (λ o. IfSome o (λ f. f.at + least ≤ size)) }
     ensures untouched { Untouched R.Rig rig.old rig.new }
-    ensures cause { HasCause File.Image (R.state rig.old) (R.state rig.new) result }
+    ensures cause { Faults (failed_at result (device_of File.Image)) (R.state rig.old) (R.state rig.new) }
 {
     let Some(at) = natural(position) else {
         return Ok(None)

@@ -5,7 +5,7 @@ ghost use Rattle.std.specs.Option.{ForSome};
 ghost use Rattle.std.specs.List.{AllByRecursion};
 ghost use Rattle.czi_rig.specs.declared.file.File.TheVariants.{Image};
 ghost use Rattle.czi_rig.specs.State.{seen_of};
-ghost use Rattle.czi_rig.specs.Passes.{HasCause};
+ghost use Rattle.czi_rig.specs.Faults.{Faults, device_of, failed_at, fault_at};
 ghost use Rattle.czi_rig.specs.Quiet.{Untouched};
 ghost use Rattle.czi_format.specs.Segment.{subblock_id};
 ghost use Rattle.czi_format.specs.Live.{tile};
@@ -13,7 +13,8 @@ ghost use Rattle.czi_format.specs.Shows.{subblock_at};
 ghost use Rattle.czi_format.specs.Refusals.{tile_rules};
 ghost use Rattle.czi_doc.specs.View.{info_of};
 ghost use Rattle.czi_dv.specs.View.{entry_of};
-ghost use Rattle.czi_image.specs.Faults.{HasRisen, Tells};
+ghost use Rattle.czi_image.specs.Devices.{image_device};
+ghost use Rattle.czi_image.specs.Faults.{Tells};
 ghost use Rattle.czi_image.specs.Inside.{IsWithin, TileEnds, TilesWithin};
 ghost use Rattle.czi_image.specs.Rules.{listed_rules, subblock_rules};
 ghost use Rattle.czi_image.specs.View.{directory_of, tile_of, tiles_of};
@@ -81,7 +82,7 @@ fn read_tile<R: Rig>(rig: &mut R, entry: Entry, size: u64) -> Result<Option<Tile
     ensures found { IfOk result (λ o. ForSome (seen_of (R.state rig.old) Image) (λ image. option_map tile_of o ≡ subblock_at image (entry_of entry))) }
     ensures inside { IfOk result (λ o. IfSome o (TileEnds size)) }
     ensures untouched { Untouched R.Rig rig.old rig.new }
-    ensures cause { HasCause Image (R.state rig.old) (R.state rig.new) result }
+    ensures cause { Faults (failed_at result (device_of Image)) (R.state rig.old) (R.state rig.new) }
 {
     match read_front(rig, entry.position, 288, size)? {
         None => Ok(None),
@@ -103,7 +104,7 @@ fn read_each<R: Rig>(
     ensures len { IfOk result (λ tiles. vec_len tiles ≡ vec_len entries) }
     ensures refused { IfErr result (λ fault. ForSome (seen_of (R.state rig.old) Image) (λ image. Tells (subblock_rules image (map entry_of entries.items)) fault)) }
     ensures untouched { Untouched R.Rig rig.old rig.new }
-    ensures cause { IfErr result (HasRisen (R.state rig.old) (R.state rig.new)) }
+    ensures cause { Faults (fault_at image_device result) (R.state rig.old) (R.state rig.new) }
 {
     let mut tiles = Vec::new(alloc);
     for entry in entries {
@@ -132,7 +133,7 @@ fn read_listed<R: Rig>(
     ensures len { IfOk result (λ tiles. vec_len tiles ≡ directory.now.count) }
     ensures refused { IfErr result (λ fault. ForSome (seen_of (R.state rig.old) Image) (λ image. Tells (listed_rules image (Some (directory_of directory.now))) fault)) }
     ensures untouched { Untouched R.Rig rig.old rig.new }
-    ensures cause { IfErr result (HasRisen (R.state rig.old) (R.state rig.new)) }
+    ensures cause { Faults (fault_at image_device result) (R.state rig.old) (R.state rig.new) }
 {
     let bytes = read_entries(alloc, rig, directory)?;
     let place = directory.segment.span.at + 160;
@@ -154,7 +155,7 @@ pub(crate) fn read_tiles<R: Rig>(
     ensures inside { IfOk result (TilesWithin size) }
     ensures refused { IfErr result (λ fault. ForSome (seen_of (R.state rig.old) Image) (λ image. Tells (tile_rules image position) fault)) }
     ensures untouched { Untouched R.Rig rig.old rig.new }
-    ensures cause { IfErr result (HasRisen (R.state rig.old) (R.state rig.new)) }
+    ensures cause { Faults (fault_at image_device result) (R.state rig.old) (R.state rig.new) }
 {
     let directory = match read_directory(rig, position, size) {
         Ok(Some(Some(directory))) => directory,

@@ -3,6 +3,7 @@ use Rattle.std.proofs.lemmas.List.{length_push}
 use Rattle.std.proofs.lemmas.Iterator.Adapters.{YieldsList-from_vec}
 use Rattle.std.proofs.lemmas.Iterator.Consumers.{YieldsList-turn, YieldsList-end}
 use Rattle.czi_rig.specs.declared.file.File.TheVariants.{Image}
+use Rattle.czi_rig.proofs.Faults.{faults_then}
 use Rattle.czi_rig.proofs.Quiet.{untouched_then}
 use Rattle.czi_format.specs.Live.{Tile}
 use Rattle.czi_format.specs.Refusals.{Refusal, bad_segment}
@@ -28,6 +29,7 @@ loop-entry-preserved g c =
     let t = YieldsList-turn (YieldsList-from_vec {s = c.into_iter-entry-iterator.result} c.args.entries.items it.0 (it.1 ∙ c.args.entries.ok.0)) c.loop-entry.yielded c.loop-entry.entry-iterator c.loop-entry.yielded_by c.next.result c.next.new.self c.in-Some.entry c.in-Some.is c.next.ensures.steps in
     record {
       untouched = untouched_then g.R.Rig c.loop-entry.invariant.untouched c.read_tile.ensures.untouched;
+      no_fault = faults_then _ _ _ _ c.loop-entry.invariant.no_fault c.in-Ok-Some.ensures.cause;
       within =
           let ends : TileEnds c.args.size c.in-Ok-Some.tile = rw (c.in-Ok-Some.field-0-is, c.in-Ok-Some.tile-is) at c.in-Ok-Some.ensures.inside in
           rw ((c.in_ok-push-in-Ok-Some.ensures {u = tt}).items) (all_push (TileEnds c.args.size) _ c.in-Ok-Some.tile c.loop-entry.invariant.within ends);
