@@ -1,5 +1,5 @@
 -- What was read of a journal, and what is answered.
-use Rattle.std.proofs.Common.{◌≡◌, ◌≤◌, ◌++◌, ℕ, List, [], arith, length, take, drop, Option, Ok, Err, sym, ◌∙◌, ap}
+use Rattle.std.proofs.Common.{◌≡◌, ◌≤◌, ◌++◌, ℕ, List, [], arith, length, take, drop, Option, None, Ok, Err, refl, sym, ◌∙◌, ap}
 use Rattle.std.specs.Prelude.{Result, IsErr}
 use Rattle.std.proofs.lemmas.List.{take_at, length-drop, length-take-le}
 use Rattle.czi_links.specs.declared.head.SlotHead.{SlotHead}
@@ -10,9 +10,8 @@ use Rattle.czi_journal.specs.declared.journal.Slot.{Slot}
 use Rattle.czi_journal.specs.declared.probing.JournalFault.{JournalFault}
 use Rattle.czi_journal.specs.declared.probing.JournalFault.TheVariants.{Version, BadRecord, Device, Memory}
 use Rattle.czi_journal.specs.Journals.{slot_place, slot_in, slot_of, behind, CountsWith}
-use Rattle.czi_journal.specs.Probing.{IsSlotAnswer, IsProbed, IsEmptied, IsCaused}
+use Rattle.czi_journal.specs.Probing.{IsSlotAnswer, IsProbed, IsEmptied, fault_device}
 use Rattle.czi_journal.proofs.Slots.{says_slot, slot_room}
-use Rattle.czi_rig.specs.State.{State}
 
 pub emptied_err : (links : List Bytes) (r : Result (Option (Journal × SlotHead)) JournalFault) → IsErr r → links ≡ [] → IsEmptied links r
 emptied_err links (Ok x) is e = cc
@@ -42,8 +41,8 @@ refused seen links reading Device e is = absurd is
 refused seen links reading Memory e is = tt
 
 -- a slot's refusal isn't a fault of the device
-pub no_fault : (old new : State) (links : List Bytes) (reading : Reading) (fault : JournalFault) → IsSlotAnswer reading links (Err fault) → IsCaused old new fault
-no_fault old new links reading (Version v) is = tt
-no_fault old new links reading (BadRecord place) is = tt
-no_fault old new links reading Device is = absurd is
-no_fault old new links reading Memory is = tt
+pub no_device : (links : List Bytes) (reading : Reading) (fault : JournalFault) → IsSlotAnswer reading links (Err fault) → fault_device fault ≡ None
+no_device links reading (Version v) is = refl
+no_device links reading (BadRecord place) is = refl
+no_device links reading Device is = absurd is
+no_device links reading Memory is = refl

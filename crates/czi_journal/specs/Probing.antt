@@ -1,7 +1,6 @@
 -- What reading a journal answers.
 use Rattle.std.specs.Prelude.{◌≡◌, ℕ, List, [], Option, None, Some, Result, Ok, Err, IsTrue}
-use Rattle.czi_rig.specs.State.{State}
-use Rattle.czi_rig.specs.Passes.{Rose}
+use Rattle.czi_rig.specs.Faults.{Device as AnyDevice, journal}
 use Rattle.czi_links.specs.declared.head.SlotHead.{SlotHead}
 use Rattle.czi_links.specs.Record.{Bytes, record_of}
 use Rattle.czi_links.specs.Reading.{Reading, Void, Holds, OfVersion, BadAt}
@@ -35,12 +34,12 @@ IsEmptied links (Ok (Some found)) = Unit {0}
 IsEmptied links (Ok None) = links ≡ []
 IsEmptied links (Err fault) = links ≡ []
 
--- a fault of the device comes only where the count of the journal rose
-abbrev pub IsCaused : State → State → JournalFault → Type 0
-IsCaused old new Device = Rose old.journal_faults new.journal_faults
-IsCaused old new (Version v) = Unit {0}
-IsCaused old new (BadRecord place) = Unit {0}
-IsCaused old new Memory = Unit {0}
+-- the device of which a fault tells
+abbrev pub fault_device : JournalFault → Option AnyDevice
+fault_device (Version v) = None
+fault_device (BadRecord place) = None
+fault_device Device = Some journal
+fault_device Memory = None
 
 -- the selected slot of a journal that counts, or none
 abbrev pub IsSelection : List ℕ → Option Slot → Type 0

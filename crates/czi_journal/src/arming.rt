@@ -1,8 +1,9 @@
-ghost use Rattle.std.specs.Prelude.{◌≡◌, ◌⊎◌, ◌+◌, ◌^◌, ◌<◌, ◌≤◌, List, ℕ, [], length, take, drop, slice_index, true, OnOk, OnErr, IfOk};
+ghost use Rattle.std.specs.Prelude.{◌≡◌, ◌⊎◌, ◌+◌, ◌^◌, ◌<◌, ◌≤◌, List, ℕ, [], length, take, drop, slice_index, true, OnOk, IfOk};
 ghost use Rattle.std.specs.Option.{ForSome};
 ghost use Rattle.czi_rig.specs.Disk.{Left, Everywhere, IsAtRest};
 ghost use Rattle.czi_rig.specs.State.{known, seen_of, LeavesOther};
-ghost use Rattle.czi_rig.specs.Passes.{GoesOn, Rose};
+ghost use Rattle.czi_rig.specs.Passes.{GoesOn};
+ghost use Rattle.czi_rig.specs.Faults.{Faults, device_of, failed_at};
 ghost use Rattle.czi_rig.specs.Moments.{devices, Throughout};
 ghost use Rattle.czi_links.specs.Record.{Record, record_of};
 ghost use Rattle.czi_links.specs.Reading.{Void, Holds, Spells};
@@ -36,7 +37,7 @@ pub fn create<R: Rig>(rig: &mut R, head: &SlotHead, buffer: &mut [u8]) -> Result
     ensures synced { OnOk result (ForSome (known (R.state rig.new) File.Journal) IsAtRest) }
     ensures other_file { LeavesOther File.Journal (R.state rig.old) (R.state rig.new) }
     ensures goes_on { GoesOn (R.state rig.old) (R.state rig.new) }
-    ensures cause { OnErr result (Rose (R.state rig.old).journal_faults (R.state rig.new).journal_faults) }
+    ensures cause { Faults (failed_at result (device_of File.Journal)) (R.state rig.old) (R.state rig.new) }
 {
     buffer.fill(0);
     head.encode(buffer);
@@ -54,7 +55,7 @@ fn clear<R: Rig>(rig: &mut R) -> Result<(), Failed>
     ensures unmarked { OnOk result (ForSome (seen_of (R.state rig.new) File.Journal) IsUnmarked) }
     ensures other_file { LeavesOther File.Journal (R.state rig.old) (R.state rig.new) }
     ensures goes_on { GoesOn (R.state rig.old) (R.state rig.new) }
-    ensures cause { OnErr result (Rose (R.state rig.old).journal_faults (R.state rig.new).journal_faults) }
+    ensures cause { Faults (failed_at result (device_of File.Journal)) (R.state rig.old) (R.state rig.new) }
 {
     if rig.len(File::Journal)? >= LONG {
         return Ok(());
@@ -74,7 +75,7 @@ fn fill<R: Rig>(rig: &mut R, slot: &[u8]) -> Result<(), Failed>
     ensures filled { OnOk result (ForSome (seen_of (R.state rig.new) File.Journal) (IsFilled slot.now)) }
     ensures other_file { LeavesOther File.Journal (R.state rig.old) (R.state rig.new) }
     ensures goes_on { GoesOn (R.state rig.old) (R.state rig.new) }
-    ensures cause { OnErr result (Rose (R.state rig.old).journal_faults (R.state rig.new).journal_faults) }
+    ensures cause { Faults (failed_at result (device_of File.Journal)) (R.state rig.old) (R.state rig.new) }
 {
     rig.write_at(File::Journal, 1, &[0; 63])?;
     rig.write_at(File::Journal, 64, slot)?;
@@ -98,7 +99,7 @@ fn arm<R: Rig>(rig: &mut R, slot: &[u8]) -> Result<Journal, Failed>
     ensures synced { OnOk result (ForSome (known (R.state rig.new) File.Journal) IsAtRest) }
     ensures other_file { LeavesOther File.Journal (R.state rig.old) (R.state rig.new) }
     ensures goes_on { GoesOn (R.state rig.old) (R.state rig.new) }
-    ensures cause { OnErr result (Rose (R.state rig.old).journal_faults (R.state rig.new).journal_faults) }
+    ensures cause { Faults (failed_at result (device_of File.Journal)) (R.state rig.old) (R.state rig.new) }
 {
     clear(rig)?;
     fill(rig, slot)?;

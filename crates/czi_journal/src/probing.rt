@@ -1,12 +1,13 @@
-ghost use Rattle.std.specs.Prelude.{◌≡◌, ◌+◌, ◌≤◌, ℕ, List, [], length, drop, take, IfOk, IfErr, IfSome, OnErr};
+ghost use Rattle.std.specs.Prelude.{◌≡◌, ◌+◌, ◌≤◌, ℕ, List, [], length, drop, take, IfOk, IfSome, OnErr};
 ghost use Rattle.std.specs.Option.{ForSome};
 ghost use Rattle.czi_rig.specs.State.{seen_of, SameAll};
-ghost use Rattle.czi_rig.specs.Passes.{GoesOn, HasCause};
+ghost use Rattle.czi_rig.specs.Passes.{GoesOn};
+ghost use Rattle.czi_rig.specs.Faults.{Faults, device_of, failed_at, fault_at};
 ghost use Rattle.czi_rig.specs.Moments.{devices, LeavesNow, Throughout};
 ghost use Rattle.czi_links.specs.Record.{record_of};
 ghost use Rattle.czi_links.specs.Reading.{IsRead, read};
 ghost use Rattle.czi_journal.specs.Journals.{behind, slot_of};
-ghost use Rattle.czi_journal.specs.Probing.{IsCaused, IsEmptied, IsProbed, IsSelection, IsSlotAnswer};
+ghost use Rattle.czi_journal.specs.Probing.{IsEmptied, IsProbed, IsSelection, IsSlotAnswer, fault_device};
 
 use crate::journal::{JOURNAL_LEN, Journal, MARK, SLOT_LEN, Slot};
 use czi_links::{LinkFault, Links, SlotHead, decode};
@@ -67,7 +68,7 @@ pub fn probe<R: Rig>(
     ensures same { SameAll (R.state rig.old) (R.state rig.new) }
     ensures moments { ForSome (devices (R.state rig.old)) (λ all. Throughout R.Rig rig.old rig.new (LeavesNow all)) }
     ensures goes_on { GoesOn (R.state rig.old) (R.state rig.new) }
-    ensures cause { IfErr result (IsCaused (R.state rig.old) (R.state rig.new)) }
+    ensures cause { Faults (fault_at fault_device result) (R.state rig.old) (R.state rig.new) }
 {
     links.clear();
     let Some(selected) = selected_slot(rig)? else {
@@ -89,7 +90,7 @@ fn selected_slot<R: Rig>(rig: &mut R) -> Result<Option<Slot>, Failed>
     ensures same { SameAll (R.state rig.old) (R.state rig.new) }
     ensures moments { ForSome (devices (R.state rig.old)) (λ all. Throughout R.Rig rig.old rig.new (LeavesNow all)) }
     ensures goes_on { GoesOn (R.state rig.old) (R.state rig.new) }
-    ensures cause { HasCause File.Journal (R.state rig.old) (R.state rig.new) result }
+    ensures cause { Faults (failed_at result (device_of File.Journal)) (R.state rig.old) (R.state rig.new) }
 {
     if rig.len(File::Journal)? < JOURNAL_LEN {
         return Ok(None);

@@ -2,7 +2,8 @@ ghost use Rattle.std.specs.Prelude.{◌≡◌, ◌+◌, ◌^◌, ◌≤◌, List
 ghost use Rattle.std.specs.Option.{ForSome};
 ghost use Rattle.czi_rig.specs.Disk.{Left, Everywhere, IsAtRest};
 ghost use Rattle.czi_rig.specs.State.{known, seen_of, LeavesOther};
-ghost use Rattle.czi_rig.specs.Passes.{GoesOn, Rose};
+ghost use Rattle.czi_rig.specs.Passes.{GoesOn};
+ghost use Rattle.czi_rig.specs.Faults.{Faults, device_of, failed_at};
 ghost use Rattle.czi_rig.specs.Moments.{devices, Throughout};
 ghost use Rattle.czi_links.specs.Record.{Record};
 ghost use Rattle.czi_links.specs.Reading.{Void, Holds, Spells};
@@ -27,7 +28,7 @@ pub fn stage<R: Rig>(rig: &mut R, journal: &Journal, bytes: &[u8]) -> Result<(),
     ensures synced { OnOk result (ForSome (known (R.state rig.new) File.Journal) IsAtRest) }
     ensures other_file { LeavesOther File.Journal (R.state rig.old) (R.state rig.new) }
     ensures goes_on { GoesOn (R.state rig.old) (R.state rig.new) }
-    ensures cause { OnErr result (Rose (R.state rig.old).journal_faults (R.state rig.new).journal_faults) }
+    ensures cause { Faults (failed_at result (device_of File.Journal)) (R.state rig.old) (R.state rig.new) }
 {
     write_synced(rig, File::Journal, journal.selected.other().place(), bytes)?;
     Ok(())
@@ -49,7 +50,7 @@ pub fn flip<R: Rig>(rig: &mut R, journal: &mut Journal) -> Result<(), Failed>
     ensures synced { OnOk result (ForSome (known (R.state rig.new) File.Journal) IsAtRest) }
     ensures other_file { LeavesOther File.Journal (R.state rig.old) (R.state rig.new) }
     ensures goes_on { GoesOn (R.state rig.old) (R.state rig.new) }
-    ensures cause { OnErr result (Rose (R.state rig.old).journal_faults (R.state rig.new).journal_faults) }
+    ensures cause { Faults (failed_at result (device_of File.Journal)) (R.state rig.old) (R.state rig.new) }
 {
     let next = journal.selected.other();
     write_synced(rig, File::Journal, 1, &[next.selector()])?;
@@ -71,7 +72,7 @@ pub fn seal<R: Rig>(rig: &mut R, _journal: Journal) -> Result<(), Failed>
     ensures synced { OnOk result (ForSome (known (R.state rig.new) File.Journal) IsAtRest) }
     ensures other_file { LeavesOther File.Journal (R.state rig.old) (R.state rig.new) }
     ensures goes_on { GoesOn (R.state rig.old) (R.state rig.new) }
-    ensures cause { OnErr result (Rose (R.state rig.old).journal_faults (R.state rig.new).journal_faults) }
+    ensures cause { Faults (failed_at result (device_of File.Journal)) (R.state rig.old) (R.state rig.new) }
 {
     write_synced(rig, File::Journal, 0, &[0])?;
     cut_synced(rig, File::Journal, 1)?;

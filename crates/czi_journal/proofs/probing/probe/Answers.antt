@@ -1,16 +1,18 @@
-use Rattle.std.proofs.Common.{◌≡◌, length, Some, refl, sym, ◌∙◌, ap, subst, arith}
+use Rattle.std.proofs.Common.{◌≡◌, length, None, Some, refl, sym, ◌∙◌, ap, subst, arith}
 use Rattle.std.specs.Prelude.{option_map}
 use Rattle.std.proofs.lemmas.Result.{err_from_is_err_and}
 use Rattle.czi_rig.specs.declared.file.File.TheVariants.{Journal}
 use Rattle.czi_rig.specs.Disk.{Disk}
+use Rattle.czi_rig.specs.Faults.{Faults}
 use Rattle.czi_rig.specs.State.{seen_of}
+use Rattle.czi_rig.proofs.Faults.{faults_then}
 use Rattle.czi_rig.proofs.Known.{same_known, goes_then}
 use Rattle.czi_rig.proofs.Runs.{run_is, run_waits}
 use Rattle.czi_links.specs.WriteSet.{WriteSet}
 use Rattle.czi_links.specs.Reading.{read}
 use Rattle.czi_journal.specs.Journals.{behind, CountsWith}
 use Rattle.czi_journal.specs.Probing.{IsSelection}
-use Rattle.czi_journal.proofs.Probes.{emptied_err, slot_read, refused, no_fault}
+use Rattle.czi_journal.proofs.Probes.{emptied_err, slot_read, refused, no_device}
 use Rattle.czi_journal.proofs.Slots.{slot_room}
 use Rattle.czi_journal.proofs.probing.probe.Goals as goal
 
@@ -58,7 +60,8 @@ pub returns-in_err-head-clause-cause : goal.returns-in_err-head-clause-cause
 returns-in_err-head-clause-cause g c =
     let answer = (c.in_err-head.ensures {u = tt}).answer in
     let p = err_from_is_err_and c.from_residual-in_err-head.result c.from_residual-in_err-head.ensures.1 in
-    rw (p.1, p.2) (no_fault (g.R.Rig.state c.args.rig.now) (g.R.Rig.state c.read_at.new.self) c.decode_at.new.links.links (behind c.place-2.result (read c.deref.result.now)) c.in_err-head.field-0.0 answer)
+    let none : Faults None (g.R.Rig.state c.args.rig.now) (g.R.Rig.state c.read_at.new.self) = faults_then None _ _ _ (c.in_ok-selected.ensures {u = tt}).cause (c.in_ok-read_at.ensures {u = tt}).cause in
+    rw (p.1, p.2) (rw (no_device c.decode_at.new.links.links (behind c.place-2.result (read c.deref.result.now)) c.in_err-head.field-0.0 answer) none)
 
 pub returns-clause-answer : goal.returns-clause-answer
 returns-clause-answer g c = λ x before.
