@@ -1,14 +1,15 @@
-ghost use Rattle.std.specs.Prelude.{◌≡◌, ◌⊎◌, ◌^◌, ◌≤◌, ℕ, List, length, take, drop, IsTrue, OnOk, IfErr, OnErr, option_map};
+ghost use Rattle.std.specs.Prelude.{◌≡◌, ◌⊎◌, ◌^◌, ◌≤◌, ℕ, List, length, take, drop, IsTrue, OnOk, option_map};
 ghost use Rattle.std.specs.Option.{ForSome};
 ghost use Rattle.czi_rig.specs.Disk.{Left, Covers, Everywhere, at_rest, IsAtRest};
 ghost use Rattle.czi_rig.specs.State.{State, known, seen_of, LeavesOther};
-ghost use Rattle.czi_rig.specs.Passes.{GoesOn, Rose};
+ghost use Rattle.czi_rig.specs.Passes.{GoesOn};
+ghost use Rattle.czi_rig.specs.Faults.{Faults, device_of, failed_at, fault_at};
 ghost use Rattle.czi_rig.specs.Moments.{devices, Throughout, LeavesNow};
 ghost use Rattle.czi_links.specs.Record.{Record, EndWithin, encoded_len, record_of};
 ghost use Rattle.czi_links.specs.Reading.{Holds, Spells};
 ghost use Rattle.czi_journal.specs.Journals.{other, slot_of, CountsWith, SaysAsBefore};
 ghost use Rattle.czi_vault.specs.Recovered.{applied, View, Recovered, StandsNow, StandsOr};
-ghost use Rattle.czi_vault.specs.Faults.{IsCaused};
+ghost use Rattle.czi_vault.specs.Faults.{fault_device};
 ghost use Rattle.czi_vault.specs.Puts.{ranges};
 ghost use Rattle.czi_vault.specs.Alone.{Alone, AloneNow, HasBytesBut100};
 
@@ -38,7 +39,7 @@ fn switch<R: Rig>(rig: &mut R, journal: &mut Journal, bytes: &[u8]) -> Result<()
     ensures armed { IsTrue journal.new.armed }
     ensures other { LeavesOther File.Journal (R.state rig.old) (R.state rig.new) }
     ensures goes_on { GoesOn (R.state rig.old) (R.state rig.new) }
-    ensures cause { OnErr result (Rose (R.state rig.old).journal_faults (R.state rig.new).journal_faults) }
+    ensures cause { Faults (failed_at result (device_of File.Journal)) (R.state rig.old) (R.state rig.new) }
 {
     stage(rig, journal, bytes)?;
     flip(rig, journal)?;
@@ -85,7 +86,7 @@ pub fn commit<R: Rig>(
     ensures armed { IsTrue journal.new.armed }
     ensures said { (R.state rig.new).said ≡ (R.state rig.old).said }
     ensures goes_on { GoesOn (R.state rig.old) (R.state rig.new) }
-    ensures cause { IfErr result (IsCaused (R.state rig.old) (R.state rig.new)) }
+    ensures cause { Faults (fault_at fault_device result) (R.state rig.old) (R.state rig.new) }
 {
     let record = &mut buffer[..links.encoded_len()];
     links.encode(head, record);

@@ -1,8 +1,9 @@
-ghost use Rattle.std.specs.Prelude.{◌≡◌, ◌+◌, ◌^◌, ◌≤◌, ℕ, List, length, OnOk, OnErr, option_map};
+ghost use Rattle.std.specs.Prelude.{◌≡◌, ◌+◌, ◌^◌, ◌≤◌, ℕ, List, length, OnOk, option_map};
 ghost use Rattle.std.specs.Option.{ForSome};
 ghost use Rattle.czi_rig.specs.Disk.{Left, overwritten, at_rest};
 ghost use Rattle.czi_rig.specs.State.{known, seen_of, LeavesOther};
-ghost use Rattle.czi_rig.specs.Passes.{GoesOn, Rose};
+ghost use Rattle.czi_rig.specs.Passes.{GoesOn};
+ghost use Rattle.czi_rig.specs.Faults.{Faults, device_of, failed_at};
 ghost use Rattle.czi_rig.specs.Moments.{devices, Throughout};
 ghost use Rattle.czi_journal.specs.Journals.{Counts};
 ghost use Rattle.czi_vault.specs.Alone.{Alone, AloneNow};
@@ -27,7 +28,7 @@ pub fn prefill<R: Rig>(rig: &mut R, at: u64, bytes: &[u8]) -> Result<(), Failed>
     ensures written { OnOk result (seen_of (R.state rig.new) File.Image ≡ option_map (overwritten at bytes.now) (seen_of (R.state rig.old) File.Image)) }
     ensures other { LeavesOther File.Image (R.state rig.old) (R.state rig.new) }
     ensures goes_on { GoesOn (R.state rig.old) (R.state rig.new) }
-    ensures cause { OnErr result (Rose (R.state rig.old).image_faults (R.state rig.new).image_faults) }
+    ensures cause { Faults (failed_at result (device_of File.Image)) (R.state rig.old) (R.state rig.new) }
 {
     rig.write_at(File::Image, at, bytes)?;
     Ok(())
@@ -42,7 +43,7 @@ pub fn settle<R: Rig>(rig: &mut R) -> Result<(), Failed>
     ensures ok { OnOk result (known (R.state rig.new) File.Image ≡ option_map at_rest (seen_of (R.state rig.old) File.Image)) }
     ensures other { LeavesOther File.Image (R.state rig.old) (R.state rig.new) }
     ensures goes_on { GoesOn (R.state rig.old) (R.state rig.new) }
-    ensures cause { OnErr result (Rose (R.state rig.old).image_faults (R.state rig.new).image_faults) }
+    ensures cause { Faults (failed_at result (device_of File.Image)) (R.state rig.old) (R.state rig.new) }
 {
     rig.sync(File::Image)?;
     Ok(())

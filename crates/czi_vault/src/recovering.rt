@@ -1,8 +1,9 @@
-ghost use Rattle.std.specs.Prelude.{◌≡◌, ◌+◌, ◌^◌, ◌≤◌, ℕ, List, length, take, OnOk, OnErr, option_map};
+ghost use Rattle.std.specs.Prelude.{◌≡◌, ◌+◌, ◌^◌, ◌≤◌, ℕ, List, length, take, OnOk, option_map};
 ghost use Rattle.std.specs.Option.{ForSome};
 ghost use Rattle.czi_rig.specs.Disk.{Left, Covers, at_rest, begun_cut, IsAtRest};
 ghost use Rattle.czi_rig.specs.State.{known, seen_of, LeavesOther};
-ghost use Rattle.czi_rig.specs.Passes.{GoesOn, Rose};
+ghost use Rattle.czi_rig.specs.Passes.{GoesOn};
+ghost use Rattle.czi_rig.specs.Faults.{Faults, device_of, failed_at};
 ghost use Rattle.czi_rig.specs.Moments.{devices, Throughout, LeavesWith};
 ghost use Rattle.czi_links.specs.Record.{EndWithin, record_of};
 ghost use Rattle.czi_links.specs.Reading.{Holds};
@@ -31,7 +32,7 @@ fn put_links<R: Rig>(rig: &mut R, links: &Links, count: usize) -> Result<(), Fai
     ensures ok { OnOk result (known (R.state rig.new) File.Image ≡ option_map (λ disk. at_rest (wrote_each links.now.links disk).seen) (known (R.state rig.old) File.Image)) }
     ensures other { LeavesOther File.Image (R.state rig.old) (R.state rig.new) }
     ensures goes_on { GoesOn (R.state rig.old) (R.state rig.new) }
-    ensures cause { OnErr result (Rose (R.state rig.old).image_faults (R.state rig.new).image_faults) }
+    ensures cause { Faults (failed_at result (device_of File.Image)) (R.state rig.old) (R.state rig.new) }
 {
     for i in 0..count {
         let (place, bytes) = links.link(i);
@@ -52,7 +53,7 @@ fn cut_to<R: Rig>(rig: &mut R, len: u64) -> Result<(), Failed>
     ensures ok { OnOk result (known (R.state rig.new) File.Image ≡ option_map (λ disk. at_rest (take len disk.seen)) (known (R.state rig.old) File.Image)) }
     ensures other { LeavesOther File.Image (R.state rig.old) (R.state rig.new) }
     ensures goes_on { GoesOn (R.state rig.old) (R.state rig.new) }
-    ensures cause { OnErr result (Rose (R.state rig.old).image_faults (R.state rig.new).image_faults) }
+    ensures cause { Faults (failed_at result (device_of File.Image)) (R.state rig.old) (R.state rig.new) }
 {
     if rig.len(File::Image)? > len {
         cut_synced(rig, File::Image, len)?;
@@ -82,7 +83,7 @@ pub fn recover<R: Rig>(rig: &mut R, links: &Links, head: &SlotHead) -> Result<()
     ensures ok { OnOk result (known (R.state rig.new) File.Image ≡ option_map (λ disk. at_rest (applied (record_of head.now links.now.links) disk.seen)) (known (R.state rig.old) File.Image)) }
     ensures other { LeavesOther File.Image (R.state rig.old) (R.state rig.new) }
     ensures goes_on { GoesOn (R.state rig.old) (R.state rig.new) }
-    ensures cause { OnErr result (Rose (R.state rig.old).image_faults (R.state rig.new).image_faults) }
+    ensures cause { Faults (failed_at result (device_of File.Image)) (R.state rig.old) (R.state rig.new) }
 {
     let count = links.count();
     write_synced(rig, File::Image, 100, &[PENDING])?;

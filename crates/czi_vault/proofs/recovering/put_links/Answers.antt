@@ -1,10 +1,11 @@
-use Rattle.std.proofs.Common.{length, ◌∙◌, ap, sym, take, subst, arith, ◌<◌, ◌≤◌, ◌+◌}
+use Rattle.std.proofs.Common.{None, length, ◌∙◌, ap, sym, take, subst, arith, ◌<◌, ◌≤◌, ◌+◌}
 use Rattle.std.specs.Prelude.{option_map}
 use Rattle.std.proofs.lemmas.Option.{get_or_from_slice_get}
 use Rattle.czi_rig.specs.declared.file.File.TheVariants.{Image}
 use Rattle.czi_rig.specs.Disk.{Disk, wrote}
 use Rattle.czi_rig.specs.State.{known}
 use Rattle.czi_rig.proofs.Known.{source_of, known_wrote, leaves_then, goes_then, option_map_then, file_known, known_file}
+use Rattle.czi_rig.proofs.Faults.{faults_then}
 use Rattle.czi_rig.proofs.Runs.{run_is, run_write_fails, run_wrote}
 use Rattle.czi_links.specs.Record.{Bytes}
 use Rattle.czi_vault.specs.Puts.{wrote_each}
@@ -47,6 +48,7 @@ loop-i-preserved g c =
           ∙ option_map_then (wrote_each (take i ls)) (wrote m.place m.bytes) (wrote_each (take (i + 1) ls)) (known s Image) (λ d. sym (wrote_each-more ls i m d lt link_is));
       other = leaves_then Image s (g.R.Rig.state c.loop-i.rig) (g.R.Rig.state c.write_at.new.self) c.loop-i.invariant.other h.other;
       goes_on = goes_then s (g.R.Rig.state c.loop-i.rig) (g.R.Rig.state c.write_at.new.self) c.loop-i.invariant.goes_on h.time.goes_on;
+      cause = faults_then None _ _ _ c.loop-i.invariant.cause ok.cause;
       moments = λ all is.
           let now = file_known s (g.R.Rig.state c.loop-i.rig) Image all _ is c.loop-i.invariant.other (c.loop-i.invariant.written ∙ ap (option_map (wrote_each (take i ls))) (known_file s Image all is)) in
           (run_wrote g.R.Rig Image m.place _ (run_is g.R.Rig now (c.loop-i.invariant.moments all is)) h.time h.other ok.begun ok.written
