@@ -9,8 +9,9 @@ use Rattle.czi_journal.specs.declared.journal.Journal.{Journal}
 use Rattle.czi_journal.specs.declared.journal.Slot.{Slot}
 use Rattle.czi_journal.specs.declared.probing.JournalFault.{JournalFault}
 use Rattle.czi_journal.specs.declared.probing.JournalFault.TheVariants.{Version, BadRecord, Device, Memory}
+use Rattle.czi_journal.specs.Devices.{journal_device}
 use Rattle.czi_journal.specs.Journals.{slot_place, slot_in, slot_of, behind, CountsWith}
-use Rattle.czi_journal.specs.Probing.{IsSlotAnswer, IsProbed, IsEmptied, fault_device}
+use Rattle.czi_journal.specs.Probing.{IsSlotAnswer, IsProbed, IsEmptied}
 use Rattle.czi_journal.proofs.Slots.{says_slot, slot_room}
 
 pub emptied_err : (links : List Bytes) (r : Result (Option (Journal × SlotHead)) JournalFault) → IsErr r → links ≡ [] → IsEmptied links r
@@ -41,7 +42,7 @@ refused seen links reading Device e is = absurd is
 refused seen links reading Memory e is = tt
 
 -- a slot's refusal isn't a fault of the device
-pub no_device : (links : List Bytes) (reading : Reading) (fault : JournalFault) → IsSlotAnswer reading links (Err fault) → fault_device fault ≡ None
+pub no_device : (links : List Bytes) (reading : Reading) (fault : JournalFault) → IsSlotAnswer reading links (Err fault) → journal_device fault ≡ None
 no_device links reading (Version v) is = refl
 no_device links reading (BadRecord place) is = refl
 no_device links reading Device is = absurd is

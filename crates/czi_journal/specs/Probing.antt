@@ -1,6 +1,5 @@
 -- What reading a journal answers.
 use Rattle.std.specs.Prelude.{◌≡◌, ℕ, List, [], Option, None, Some, Result, Ok, Err, IsTrue}
-use Rattle.czi_rig.specs.Faults.{Device as AnyDevice, journal}
 use Rattle.czi_links.specs.declared.head.SlotHead.{SlotHead}
 use Rattle.czi_links.specs.Record.{Bytes, record_of}
 use Rattle.czi_links.specs.Reading.{Reading, Void, Holds, OfVersion, BadAt}
@@ -33,13 +32,6 @@ abbrev pub IsEmptied : List Bytes → Result (Option (Journal × SlotHead)) Jour
 IsEmptied links (Ok (Some found)) = Unit {0}
 IsEmptied links (Ok None) = links ≡ []
 IsEmptied links (Err fault) = links ≡ []
-
--- the device of which a fault tells
-abbrev pub fault_device : JournalFault → Option AnyDevice
-fault_device (Version v) = None
-fault_device (BadRecord place) = None
-fault_device Device = Some journal
-fault_device Memory = None
 
 -- the selected slot of a journal that counts, or none
 abbrev pub IsSelection : List ℕ → Option Slot → Type 0

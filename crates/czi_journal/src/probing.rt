@@ -6,8 +6,9 @@ ghost use Rattle.czi_rig.specs.Faults.{Faults, device_of, failed_at, fault_at};
 ghost use Rattle.czi_rig.specs.Moments.{devices, LeavesNow, Throughout};
 ghost use Rattle.czi_links.specs.Record.{record_of};
 ghost use Rattle.czi_links.specs.Reading.{IsRead, read};
+ghost use Rattle.czi_journal.specs.Devices.{journal_device};
 ghost use Rattle.czi_journal.specs.Journals.{behind, slot_of};
-ghost use Rattle.czi_journal.specs.Probing.{IsEmptied, IsProbed, IsSelection, IsSlotAnswer, fault_device};
+ghost use Rattle.czi_journal.specs.Probing.{IsEmptied, IsProbed, IsSelection, IsSlotAnswer};
 
 use crate::journal::{JOURNAL_LEN, Journal, MARK, SLOT_LEN, Slot};
 use czi_links::{LinkFault, Links, SlotHead, decode};
@@ -68,7 +69,7 @@ pub fn probe<R: Rig>(
     ensures same { SameAll (R.state rig.old) (R.state rig.new) }
     ensures moments { ForSome (devices (R.state rig.old)) (λ all. Throughout R.Rig rig.old rig.new (LeavesNow all)) }
     ensures goes_on { GoesOn (R.state rig.old) (R.state rig.new) }
-    ensures cause { Faults (fault_at fault_device result) (R.state rig.old) (R.state rig.new) }
+    ensures cause { Faults (fault_at journal_device result) (R.state rig.old) (R.state rig.new) }
 {
     links.clear();
     let Some(selected) = selected_slot(rig)? else {

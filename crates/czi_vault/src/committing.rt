@@ -9,7 +9,7 @@ ghost use Rattle.czi_links.specs.Record.{Record, EndWithin, encoded_len, record_
 ghost use Rattle.czi_links.specs.Reading.{Holds, Spells};
 ghost use Rattle.czi_journal.specs.Journals.{other, slot_of, CountsWith, SaysAsBefore};
 ghost use Rattle.czi_vault.specs.Recovered.{applied, View, Recovered, StandsNow, StandsOr};
-ghost use Rattle.czi_vault.specs.Faults.{fault_device};
+ghost use Rattle.czi_vault.specs.Devices.{vault_device};
 ghost use Rattle.czi_vault.specs.Puts.{ranges};
 ghost use Rattle.czi_vault.specs.Alone.{Alone, AloneNow, HasBytesBut100};
 
@@ -86,7 +86,7 @@ pub fn commit<R: Rig>(
     ensures armed { IsTrue journal.new.armed }
     ensures said { (R.state rig.new).said ≡ (R.state rig.old).said }
     ensures goes_on { GoesOn (R.state rig.old) (R.state rig.new) }
-    ensures cause { Faults (fault_at fault_device result) (R.state rig.old) (R.state rig.new) }
+    ensures cause { Faults (fault_at vault_device result) (R.state rig.old) (R.state rig.new) }
 {
     let record = &mut buffer[..links.encoded_len()];
     links.encode(head, record);
