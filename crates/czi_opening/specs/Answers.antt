@@ -3,7 +3,6 @@ use Rattle.std.specs.Prelude.{◌≡◌, ℕ, List, Bool, true, false, Option, N
 use Rattle.czi_rig.specs.declared.file.File.TheVariants.{Image, Journal}
 use Rattle.czi_rig.specs.Disk.{at_rest}
 use Rattle.czi_rig.specs.State.{State, known}
-use Rattle.czi_rig.specs.Passes.{Rose}
 use Rattle.czi_format.specs.Refusals as refusals
 use Rattle.czi_format.specs.Refusals.{Refusal}
 use Rattle.czi_num.specs.Span.{span_of}
@@ -71,14 +70,3 @@ StandsSo false slot journal = slot_of journal ≡ Void
 
 abbrev pub IsJournal : JournalState → List ℕ → Type 0
 IsJournal j journal = StandsSo j.armed j.selected journal
-
--- a device fails only where the count of that file rose
-abbrev pub IsCaused : State → State → OpenError → Type 0
-IsCaused old new (JournalVersion version) = Unit {0}
-IsCaused old new (BadJournal place) = Unit {0}
-IsCaused old new (ImageShort have need) = Unit {0}
-IsCaused old new (ForeignJournal journal image) = Unit {0}
-IsCaused old new (Refused refusal) = Unit {0}
-IsCaused old new ImageDevice = Rose old.image_faults new.image_faults
-IsCaused old new JournalDevice = Rose old.journal_faults new.journal_faults
-IsCaused old new Memory = Unit {0}

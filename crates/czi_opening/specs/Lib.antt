@@ -1,4 +1,5 @@
 pub mod Answers
 pub mod Course
+pub mod Devices
 pub mod Opens
 pub mod Steps

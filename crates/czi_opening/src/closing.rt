@@ -1,12 +1,13 @@
 //! Closing an image that was opened.
 
-ghost use Rattle.std.specs.Prelude.{◌≡◌, false, List, ℕ, OnOk, OnErr};
+ghost use Rattle.std.specs.Prelude.{◌≡◌, false, List, ℕ, OnOk};
 ghost use Rattle.std.specs.Option.{ForSome};
 ghost use Rattle.czi_journal.specs.Journals.{slot_of};
 ghost use Rattle.czi_links.specs.Reading.{Void};
 ghost use Rattle.czi_rig.specs.Disk.{Everywhere, IsAtRest};
 ghost use Rattle.czi_rig.specs.State.{LeavesOther, known};
-ghost use Rattle.czi_rig.specs.Passes.{GoesOn, Rose};
+ghost use Rattle.czi_rig.specs.Passes.{GoesOn};
+ghost use Rattle.czi_rig.specs.Faults.{Faults, device_of, failed_at};
 ghost use Rattle.czi_rig.specs.Moments.{devices, Throughout};
 ghost use Rattle.czi_rig.specs.Quiet.{Untouched};
 ghost use Rattle.czi_vault.specs.Recovered.{Recovered};
@@ -32,7 +33,7 @@ pub fn close<R: Rig>(rig: &mut R, journal: Journal) -> Result<(), Failed>
     ensures idle { journal.armed ≡ false → Untouched R.Rig rig.old rig.new }
     ensures other { LeavesOther File.Journal (R.state rig.old) (R.state rig.new) }
     ensures goes_on { GoesOn (R.state rig.old) (R.state rig.new) }
-    ensures cause { OnErr result (Rose (R.state rig.old).journal_faults (R.state rig.new).journal_faults) }
+    ensures cause { Faults (failed_at result (device_of File.Journal)) (R.state rig.old) (R.state rig.new) }
 {
     if journal.armed {
         seal(rig, journal)

@@ -6,8 +6,10 @@ ghost use Rattle.czi_image.specs.Holds.{Indexes};
 ghost use Rattle.czi_rig.specs.Disk.{Everywhere, IsAtRest};
 ghost use Rattle.czi_rig.specs.State.{known, seen_of};
 ghost use Rattle.czi_rig.specs.Passes.{GoesOn};
+ghost use Rattle.czi_rig.specs.Faults.{Faults, fault_at};
 ghost use Rattle.czi_rig.specs.Moments.{devices, Throughout};
-ghost use Rattle.czi_opening.specs.Answers.{AreRecovered, IsCaused, IsJournal, Tells};
+ghost use Rattle.czi_opening.specs.Answers.{AreRecovered, IsJournal, Tells};
+ghost use Rattle.czi_opening.specs.Devices.{open_device};
 ghost use Rattle.czi_opening.specs.Course.{OpensFrom, Stays};
 
 use crate::error::OpenError;
@@ -52,7 +54,7 @@ pub fn open<R: Rig>(alloc: Global, rig: &mut R) -> Result<Opened, OpenError>
     ensures moments { ForSome (devices (R.state rig.old)) (λ all. OpensFrom R.Rig rig.old rig.new (Stays all) result) }
     ensures said { (R.state rig.new).said ≡ (R.state rig.old).said }
     ensures goes_on { GoesOn (R.state rig.old) (R.state rig.new) }
-    ensures cause { IfErr result (IsCaused (R.state rig.old) (R.state rig.new)) }
+    ensures cause { Faults (fault_at open_device result) (R.state rig.old) (R.state rig.new) }
 {
     sync_both(rig)?;
     open_synced(alloc, rig)
@@ -74,7 +76,7 @@ fn open_synced<R: Rig>(alloc: Global, rig: &mut R) -> Result<Opened, OpenError>
     ensures moments { ForSome (devices (R.state rig.old)) (λ all. Throughout R.Rig rig.old rig.new (Stays all)) }
     ensures said { (R.state rig.new).said ≡ (R.state rig.old).said }
     ensures goes_on { GoesOn (R.state rig.old) (R.state rig.new) }
-    ensures cause { IfErr result (IsCaused (R.state rig.old) (R.state rig.new)) }
+    ensures cause { Faults (fault_at open_device result) (R.state rig.old) (R.state rig.new) }
 {
     let mut links = Links::new(alloc);
     let journal = restore(alloc, rig, &mut links)?;

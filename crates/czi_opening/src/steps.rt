@@ -1,6 +1,6 @@
 //! The steps of an opening.
 
-ghost use Rattle.std.specs.Prelude.{◌≡◌, ◌≤◌, IfOk, IfErr, OnOk, OnErr, option_map};
+ghost use Rattle.std.specs.Prelude.{◌≡◌, ◌≤◌, IfOk, IfErr, OnOk, option_map};
 ghost use Rattle.std.specs.Option.{ForSome};
 ghost use Rattle.czi_image.specs.Holds.{Indexes};
 ghost use Rattle.czi_journal.specs.Journals.{slot_of};
@@ -9,10 +9,12 @@ ghost use Rattle.czi_links.specs.Record.{record_of};
 ghost use Rattle.czi_rig.specs.Disk.{Everywhere, IsAtRest, at_rest};
 ghost use Rattle.czi_rig.specs.State.{LeavesOther, known, seen_of};
 ghost use Rattle.czi_rig.specs.Passes.{GoesOn};
+ghost use Rattle.czi_rig.specs.Faults.{Faults, fault_at};
 ghost use Rattle.czi_rig.specs.Moments.{devices, Throughout};
 ghost use Rattle.czi_rig.specs.Quiet.{AddsNothing, Untouched};
 ghost use Rattle.czi_vault.specs.Recovered.{applied};
-ghost use Rattle.czi_opening.specs.Answers.{AreRecovered, IsCaused, IsJournal, Tells};
+ghost use Rattle.czi_opening.specs.Answers.{AreRecovered, IsJournal, Tells};
+ghost use Rattle.czi_opening.specs.Devices.{open_device};
 ghost use Rattle.czi_opening.specs.Course.{Stays};
 ghost use Rattle.czi_opening.specs.Steps.{CanBeOf, IfNotOf, IsDevice, IsNotOf, RefusesImage};
 
@@ -35,7 +37,7 @@ pub(crate) fn sync_both<R: Rig>(rig: &mut R) -> Result<(), OpenError>
     ensures moments { AddsNothing R.Rig rig.old rig.new }
     ensures said { (R.state rig.new).said ≡ (R.state rig.old).said }
     ensures goes_on { GoesOn (R.state rig.old) (R.state rig.new) }
-    ensures cause { IfErr result (IsCaused (R.state rig.old) (R.state rig.new)) }
+    ensures cause { Faults (fault_at open_device result) (R.state rig.old) (R.state rig.new) }
 {
     if rig.sync(File::Image).is_err() {
         return Err(OpenError::ImageDevice);
@@ -53,7 +55,7 @@ fn check<R: Rig>(rig: &mut R, head: &SlotHead) -> Result<(), OpenError>
     ensures passed { OnOk result (ForSome (seen_of (R.state rig.old) File.Image) (CanBeOf head.now.guid head.now.length)) }
     ensures refused { IfErr result (λ error. ForSome (seen_of (R.state rig.old) File.Image) (λ image. IsNotOf head.now.guid head.now.length image error)) }
     ensures untouched { Untouched R.Rig rig.old rig.new }
-    ensures cause { IfErr result (IsCaused (R.state rig.old) (R.state rig.new)) }
+    ensures cause { Faults (fault_at open_device result) (R.state rig.old) (R.state rig.new) }
 {
     let Ok(have) = rig.len(File::Image) else {
         return Err(OpenError::ImageDevice);
@@ -88,7 +90,7 @@ fn bring_back<R: Rig>(rig: &mut R, links: &Links, head: &SlotHead) -> Result<(),
     ensures moments { ForSome (devices (R.state rig.old)) (λ all. Throughout R.Rig rig.old rig.new (Stays all)) }
     ensures other { LeavesOther File.Image (R.state rig.old) (R.state rig.new) }
     ensures goes_on { GoesOn (R.state rig.old) (R.state rig.new) }
-    ensures cause { IfErr result (IsCaused (R.state rig.old) (R.state rig.new)) }
+    ensures cause { Faults (fault_at open_device result) (R.state rig.old) (R.state rig.new) }
 {
     check(rig, head)?;
     match recover(rig, links, head) {
@@ -116,7 +118,7 @@ pub(crate) fn restore<R: Rig>(
     ensures moments { ForSome (devices (R.state rig.old)) (λ all. Throughout R.Rig rig.old rig.new (Stays all)) }
     ensures other { LeavesOther File.Image (R.state rig.old) (R.state rig.new) }
     ensures goes_on { GoesOn (R.state rig.old) (R.state rig.new) }
-    ensures cause { IfErr result (IsCaused (R.state rig.old) (R.state rig.new)) }
+    ensures cause { Faults (fault_at open_device result) (R.state rig.old) (R.state rig.new) }
 {
     match probe(alloc, rig, links)? {
         None => Ok(Journal {
@@ -135,7 +137,7 @@ pub(crate) fn read_image<R: Rig>(alloc: Global, rig: &mut R) -> Result<Index, Op
     ensures shown { IfOk result (λ x. ForSome (seen_of (R.state rig.old) File.Image) (λ image. Indexes image x)) }
     ensures refused { IfErr result (λ error. ForSome (seen_of (R.state rig.old) File.Image) (λ image. RefusesImage image error)) }
     ensures untouched { Untouched R.Rig rig.old rig.new }
-    ensures cause { IfErr result (IsCaused (R.state rig.old) (R.state rig.new)) }
+    ensures cause { Faults (fault_at open_device result) (R.state rig.old) (R.state rig.new) }
 {
     Ok(read_index(alloc, rig)?)
 }
