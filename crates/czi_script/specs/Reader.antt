@@ -1,7 +1,7 @@
 -- What a reader of scripts shows, and what reading a command does.
 use Rattle.std.specs.Prelude.{◌≡◌, ℕ, ◌+◌, ◌-◌, ◌^◌, ◌<◌, ◌≤◌, List, [], ◌++◌, drop, length, Option, Some, None, option_map, Result, Ok, Err}
 use Rattle.std.specs.Option.{ForSome}
-use Rattle.czi_rig.specs.Passes.{Rose}
+use Rattle.czi_rig.specs.Faults.{Device, input}
 use Rattle.czi_script.specs.declared.command.Command.{Command as CodeCommand}
 use Rattle.czi_script.specs.declared.error.ScriptError.{ScriptError}
 use Rattle.czi_script.specs.declared.error.ScriptError.TheVariants.{Fault, Input as InputFailed, TooLong, Memory}
@@ -98,12 +98,12 @@ abbrev pub kept : Result (Option CodeCommand) ScriptError → Option ScriptError
 kept (Ok found) = None
 kept (Err error) = Some error
 
--- a failed input was counted
-abbrev pub CausesError : ℕ → ℕ → ScriptError → Type 0
-CausesError before now (Fault number kind) = Unit {0}
-CausesError before now InputFailed = Rose before now
-CausesError before now TooLong = Unit {0}
-CausesError before now Memory = Unit {0}
+-- the device that an error tells: the input, where a call of it failed
+abbrev pub script_device : ScriptError → Option Device
+script_device (Fault number kind) = None
+script_device InputFailed = Some input
+script_device TooLong = None
+script_device Memory = None
 
 -- how many bytes are lost: the one behind the limit
 abbrev pub lost_by : ScriptError → ℕ

@@ -2,7 +2,8 @@
 
 ghost use Rattle.std.specs.Prelude.{◌≡◌, ◌≢◌, ◌+◌, ◌<◌, ◌≤◌, [], length, is_some, IfOk, IfErr, IfSome, OnOk};
 ghost use Rattle.std.specs.Option.{ForSome};
-ghost use Rattle.czi_script.specs.Reader.{Reader, IsReader, unused, ahead, FindsThere, Leaves, Counts, CausesError, TakesFirst, lost, kept};
+ghost use Rattle.czi_rig.specs.Faults.{Counted, fault_at, is_at_input};
+ghost use Rattle.czi_script.specs.Reader.{Reader, IsReader, unused, ahead, FindsThere, Leaves, Counts, TakesFirst, kept, lost, script_device};
 ghost use Rattle.czi_script.specs.Pieces.{IsFront, AtEnd, Fills, FillStops, Lines, LineStops, UsesLine, RefusesLine, EndsLine};
 
 use crate::command::Command;
@@ -46,7 +47,7 @@ fn ends<S: Source>(input: &mut S) -> Result<(), ScriptError>
     ensures stops { IfErr result (EndsLine (S.input input.old).left (S.input input.new).left) }
     ensures told { is_some (S.input input.new).left ≡ is_some (S.input input.old).left }
     ensures later { (S.input input.old).faults ≤ (S.input input.new).faults }
-    ensures cause { IfErr result (CausesError (S.input input.old).faults (S.input input.new).faults) }
+    ensures cause { Counted (is_at_input (fault_at script_device result)) (S.input input.old).faults (S.input input.new).faults }
 {
     match input.take(&mut [0u8; 1]) {
         Ok(0) => Ok(()),
@@ -98,7 +99,7 @@ impl ScriptReader {
         ensures stops { IfErr result (FillStops self.old self.new (S.input input.old).left (S.input input.new).left) }
         ensures told { is_some (S.input input.new).left ≡ is_some (S.input input.old).left }
         ensures later { (S.input input.old).faults ≤ (S.input input.new).faults }
-        ensures cause { IfErr result (CausesError (S.input input.old).faults (S.input input.new).faults) }
+        ensures cause { Counted (is_at_input (fault_at script_device result)) (S.input input.old).faults (S.input input.new).faults }
     {
         let room = LIMIT - self.taken;
         if room == 0 {
@@ -119,6 +120,7 @@ impl ScriptReader {
     fn end(&self) -> Result<Option<usize>, ScriptError>
         ensures none { IfOk result (λ found. (found ≡ None) × (self.now.held ≡ [])) }
         ensures cut { IfErr result (λ error. (error ≡ ScriptError.Fault (self.now.commands + 1) Kind.Cut) × (self.now.held ≢ [])) }
+        ensures own { fault_at script_device result ≡ None }
     {
         if self.window.held().is_empty() {
             Ok(None)
@@ -135,7 +137,7 @@ impl ScriptReader {
         ensures stops { IfErr result (LineStops self.old self.new (S.input input.old).left (S.input input.new).left) }
         ensures told { is_some (S.input input.new).left ≡ is_some (S.input input.old).left }
         ensures later { (S.input input.old).faults ≤ (S.input input.new).faults }
-        ensures cause { IfErr result (CausesError (S.input input.old).faults (S.input input.new).faults) }
+        ensures cause { Counted (is_at_input (fault_at script_device result)) (S.input input.old).faults (S.input input.new).faults }
     {
         let mut seen = 0;
         loop {
@@ -156,6 +158,7 @@ impl ScriptReader {
         ensures sound { IsReader self.new }
         ensures ok { IfOk result (UsesLine self.old self.new len) }
         ensures err { IfErr result (RefusesLine self.old self.new len) }
+        ensures own { fault_at script_device result ≡ None }
     {
         let line = &self.window.held()[..len];
         match command_in(self.alloc, line) {
@@ -179,7 +182,7 @@ impl ScriptReader {
         ensures error { self.new.error ≡ self.old.error }
         ensures told { is_some (S.input input.new).left ≡ is_some (S.input input.old).left }
         ensures later { (S.input input.old).faults ≤ (S.input input.new).faults }
-        ensures cause { IfErr result (CausesError (S.input input.old).faults (S.input input.new).faults) }
+        ensures cause { Counted (is_at_input (fault_at script_device result)) (S.input input.old).faults (S.input input.new).faults }
     {
         match self.line(input)? {
             Some(len) => match self.command(len) {
@@ -202,7 +205,7 @@ impl ScriptReader {
         ensures leaves { self.old.error ≡ None → ForSome (ahead self.old (S.input input.old).left) (λ bytes. Leaves self.old self.new bytes (ahead self.new (S.input input.new).left) result) }
         ensures takes { self.old.error ≡ None → TakesFirst self.old self.new (S.input input.old).left (S.input input.new).left (lost result) }
         ensures counts { self.old.error ≡ None → Counts self.old self.new result }
-        ensures cause { self.old.error ≡ None → IfErr result (CausesError (S.input input.old).faults (S.input input.new).faults) }
+        ensures cause { self.old.error ≡ None → Counted (is_at_input (fault_at script_device result)) (S.input input.old).faults (S.input input.new).faults }
         ensures keeps { self.new.error ≡ kept result }
         ensures again { IfSome self.old.error (λ error. (result ≡ Err error) × (self.new ≡ self.old) × (input.new ≡ input.old)) }
         ensures sound { IsReader self.new }

@@ -1,7 +1,7 @@
 //! Bytes that were taken of an input and are not used yet.
 
-ghost use Rattle.std.specs.Prelude.{◌≡◌, ◌-◌, ◌<◌, ◌≤◌, [], length, drop, slice_range, is_some, IfOk, OnErr};
-ghost use Rattle.czi_rig.specs.Passes.{Rose};
+ghost use Rattle.std.specs.Prelude.{◌≡◌, ◌-◌, ◌<◌, ◌≤◌, [], length, drop, slice_range, is_err, is_some, IfOk, OnErr};
+ghost use Rattle.czi_rig.specs.Faults.{Counted};
 ghost use Rattle.czi_script.specs.Pieces.{Added};
 
 use crate::lines::LINE;
@@ -88,7 +88,7 @@ impl Window {
         ensures kept { OnErr result ((S.input input.new).left ≡ (S.input input.old).left) }
         ensures told { is_some (S.input input.new).left ≡ is_some (S.input input.old).left }
         ensures later { (S.input input.old).faults ≤ (S.input input.new).faults }
-        ensures cause { OnErr result (Rose (S.input input.old).faults (S.input input.new).faults) }
+        ensures cause { Counted (is_err result) (S.input input.old).faults (S.input input.new).faults }
     {
         let (from, to) = make_room(&mut self.buffer, self.from, self.to);
         self.from = from;

@@ -13,6 +13,7 @@ invariant-loop-len g l = record {
   few : l.seen < 4096;
   free : HasNo 10 (take l.seen l.self.held);
   later : (g.S.Source.input l.initial.input).faults ≤ (g.S.Source.input l.input).faults;
+  no_fault : (g.S.Source.input l.input).faults ≡ (g.S.Source.input l.initial.input).faults;
 }
 
 abbrev pub decreases-loop-len : goal.decreases-loop-len
