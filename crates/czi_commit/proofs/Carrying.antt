@@ -1,12 +1,11 @@
 -- The steps of a command, one after another.
-use Rattle.std.proofs.Common.{◌≡◌, inl, ℕ, ◌≤◌, Option, None, Some, Result, Ok, Err, List, refl, ◌∙◌, ap, arith}
+use Rattle.std.proofs.Common.{◌≡◌, inl, ℕ, Option, None, Some, Result, Ok, Err, List, refl, ◌∙◌, ap}
 use Rattle.std.specs.Prelude.{option_map, OnOk}
 use Rattle.std.specs.Option.{ForSome}
 use Rattle.czi_rig.specs.declared.rig.Rig.{Ghosts}
 use Rattle.czi_rig.specs.declared.file.File.TheVariants.{Image, Journal}
 use Rattle.czi_rig.specs.Disk.{Disk, Everywhere, at_rest}
 use Rattle.czi_rig.specs.State.{State, Instant, known, seen_of}
-use Rattle.czi_rig.specs.Passes.{Rose}
 use Rattle.czi_rig.specs.Moments.{Devices, devices, Throughout, CountsNow, OnlyNow}
 use Rattle.czi_rig.proofs.Known.{known_file}
 use Rattle.czi_rig.proofs.Runs.{joined, started, weaker}
@@ -85,7 +84,3 @@ image_committed s three four f g settled committed = committed ∙ ap (option_ma
 
 pub image_known : (s three : State) (all : Devices) (f : List ℕ → List ℕ) → devices s ≡ Some all → known three Image ≡ option_map (λ (d : Disk). at_rest (f d.seen)) (known s Image) → known three Image ≡ Some (at_rest (f all.image.seen))
 image_known s three all f is settled = settled ∙ ap (option_map (λ (d : Disk). at_rest (f d.seen))) (known_file s Image all is)
-
--- a count that rose after it didn't fall
-pub rose_then : (a b c : ℕ) → a ≤ b → Rose b c → Rose a c
-rose_then a b c le rose = omega (arith, le, rose)

@@ -1,9 +1,10 @@
 // The new bytes of a plan.
-ghost use Rattle.std.specs.Prelude.{◌≡◌, ◌+◌, ◌^◌, ◌≤◌, ℕ, List, length, OnOk, OnErr, option_map};
+ghost use Rattle.std.specs.Prelude.{◌≡◌, ◌+◌, ◌^◌, ◌≤◌, ℕ, List, length, OnOk, option_map};
 ghost use Rattle.std.specs.List.{AllByRecursion};
 ghost use Rattle.std.specs.Option.{ForSome};
 ghost use Rattle.czi_rig.specs.State.{seen_of, LeavesOther};
-ghost use Rattle.czi_rig.specs.Passes.{GoesOn, Rose};
+ghost use Rattle.czi_rig.specs.Passes.{GoesOn};
+ghost use Rattle.czi_rig.specs.Faults.{Faults, device_of, failed_at};
 ghost use Rattle.czi_rig.specs.Moments.{devices, Throughout};
 ghost use Rattle.czi_region.specs.Pieces.{IsPiece};
 ghost use Rattle.czi_vault.specs.Recovered.{with_links, View, Stands, StandsNow};
@@ -28,7 +29,7 @@ fn pad<R: Rig>(rig: &mut R, end: u64, place: u64) -> Result<(), Failed>
     ensures written { OnOk result (seen_of (R.state rig.new) File.Image ≡ option_map (with_links (zeros end place)) (seen_of (R.state rig.old) File.Image)) }
     ensures other { LeavesOther File.Image (R.state rig.old) (R.state rig.new) }
     ensures goes_on { GoesOn (R.state rig.old) (R.state rig.new) }
-    ensures cause { OnErr result (Rose (R.state rig.old).image_faults (R.state rig.new).image_faults) }
+    ensures cause { Faults (failed_at result (device_of File.Image)) (R.state rig.old) (R.state rig.new) }
 {
     if end >= place {
         return Ok(());
@@ -48,7 +49,7 @@ fn put<R: Rig>(rig: &mut R, end: u64, place: u64, bytes: &[u8]) -> Result<(), Fa
     ensures written { OnOk result (seen_of (R.state rig.new) File.Image ≡ option_map (with_links (with_gap end (record { place = place; bytes = bytes.now }))) (seen_of (R.state rig.old) File.Image)) }
     ensures other { LeavesOther File.Image (R.state rig.old) (R.state rig.new) }
     ensures goes_on { GoesOn (R.state rig.old) (R.state rig.new) }
-    ensures cause { OnErr result (Rose (R.state rig.old).image_faults (R.state rig.new).image_faults) }
+    ensures cause { Faults (failed_at result (device_of File.Image)) (R.state rig.old) (R.state rig.new) }
 {
     pad(rig, end, place)?;
     prefill(rig, place, bytes)
@@ -73,7 +74,7 @@ pub(crate) fn fill<R: Rig>(
     ensures written { OnOk result (seen_of (R.state rig.new) File.Image ≡ option_map (with_links (filled image_len (pieces_in region.now writes.now))) (seen_of (R.state rig.old) File.Image)) }
     ensures other { LeavesOther File.Image (R.state rig.old) (R.state rig.new) }
     ensures goes_on { GoesOn (R.state rig.old) (R.state rig.new) }
-    ensures cause { OnErr result (Rose (R.state rig.old).image_faults (R.state rig.new).image_faults) }
+    ensures cause { Faults (failed_at result (device_of File.Image)) (R.state rig.old) (R.state rig.new) }
 {
     let mut end = image_len;
     for i in 0..writes.len() {

@@ -1,16 +1,17 @@
 // The steps of a command.
-ghost use Rattle.std.specs.Prelude.{◌≡◌, ◌^◌, ◌≤◌, ℕ, List, false, length, take, drop, slice_index, IsTrue, IfErr, OnOk, OnErr, option_map};
+ghost use Rattle.std.specs.Prelude.{◌≡◌, ◌^◌, ◌≤◌, ℕ, List, false, length, take, drop, slice_index, IsTrue, OnOk, option_map};
 ghost use Rattle.std.specs.List.{AllByRecursion};
 ghost use Rattle.std.specs.Option.{ForSome};
 ghost use Rattle.czi_rig.specs.Disk.{Everywhere, at_rest, IsAtRest};
 ghost use Rattle.czi_rig.specs.State.{known, seen_of, LeavesOther};
-ghost use Rattle.czi_rig.specs.Passes.{GoesOn, Rose};
+ghost use Rattle.czi_rig.specs.Passes.{GoesOn};
+ghost use Rattle.czi_rig.specs.Faults.{Faults, device_of, failed_at, fault_at};
 ghost use Rattle.czi_rig.specs.Moments.{devices, Throughout, LeavesNow};
 ghost use Rattle.czi_links.specs.Record.{EndWithin, encoded_len};
 ghost use Rattle.czi_journal.specs.Journals.{CountsWith};
 ghost use Rattle.czi_region.specs.Pieces.{IsPiece};
 ghost use Rattle.czi_vault.specs.Recovered.{View, Stands, StandsNow, StandsOr, Recovered};
-ghost use Rattle.czi_vault.specs.Faults.{IsCaused};
+ghost use Rattle.czi_vault.specs.Devices.{vault_device};
 ghost use Rattle.czi_opening.specs.Answers.{IsJournal};
 ghost use Rattle.czi_commit.specs.Filled.{AreFree, AreNear, LeaveGuid, filled, last_end};
 ghost use Rattle.czi_commit.specs.Made.{made, writes_of};
@@ -43,7 +44,7 @@ fn arm<R: Rig>(
     ensures armed { OnOk result (IsTrue journal.new.armed) }
     ensures other { LeavesOther File.Journal (R.state rig.old) (R.state rig.new) }
     ensures goes_on { GoesOn (R.state rig.old) (R.state rig.new) }
-    ensures cause { OnErr result (Rose (R.state rig.old).journal_faults (R.state rig.new).journal_faults) }
+    ensures cause { Faults (failed_at result (device_of File.Journal)) (R.state rig.old) (R.state rig.new) }
 {
     if journal.armed {
         return Ok(());
@@ -93,7 +94,7 @@ pub fn carry_out<R: Rig>(
     ensures armed { OnOk result (IsTrue journal.new.armed) }
     ensures said { (R.state rig.new).said ≡ (R.state rig.old).said }
     ensures goes_on { GoesOn (R.state rig.old) (R.state rig.new) }
-    ensures cause { IfErr result (IsCaused (R.state rig.old) (R.state rig.new)) }
+    ensures cause { Faults (fault_at vault_device result) (R.state rig.old) (R.state rig.new) }
 {
     match arm(rig, journal, file, buffer) {
         Ok(()) => {}

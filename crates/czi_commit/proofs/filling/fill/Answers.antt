@@ -1,8 +1,9 @@
-use Rattle.std.proofs.Common.{◌≡◌, ◌∙◌, ℕ, ◌≤◌, ◌^◌, ◌+◌, max, List, ◌∷◌, length, drop, get_or, sym, ap, subst, arith}
+use Rattle.std.proofs.Common.{◌≡◌, ◌∙◌, ℕ, ◌≤◌, ◌^◌, ◌+◌, max, None, List, ◌∷◌, length, drop, get_or, sym, ap, subst, arith}
 use Rattle.std.specs.Prelude.{option_map}
 use Rattle.std.specs.List.{AllByRecursion}
 use Rattle.czi_rig.specs.declared.file.File.TheVariants.{Image}
 use Rattle.czi_rig.specs.State.{seen_of}
+use Rattle.czi_rig.proofs.Faults.{faults_then}
 use Rattle.czi_rig.proofs.Known.{goes_then, leaves_then, option_map_then}
 use Rattle.czi_links.specs.Record.{Bytes, end_of}
 use Rattle.czi_region.specs.declared.block.Piece.{Piece}
@@ -72,6 +73,7 @@ loop-i-preserved g c =
       small = subst (λ (n : ℕ). last_end n rest ≤ 2 ^ 62) (sym end_is) (subst (λ (ps : List Bytes). last_end end ps ≤ 2 ^ 62) here c.loop-i.invariant.small);
       other = leaves_then Image s mid new c.loop-i.invariant.other c.put.ensures.other;
       goes_on = goes_then s mid new c.loop-i.invariant.goes_on c.put.ensures.goes_on;
+      cause = faults_then None s mid new c.loop-i.invariant.cause c.in_ok-put.ensures.cause;
       moments = λ all is view stands counts free.
           let so_far = c.loop-i.invariant.moments all is view stands counts free in
           let gap = free_gap view end w rest (subst (λ (ps : List Bytes). AreFree view (filled end ps)) here so_far.0) in (

@@ -1,10 +1,11 @@
-use Rattle.std.proofs.Common.{◌≡◌, ◌≤◌, ◌^◌, length, drop}
+use Rattle.std.proofs.Common.{◌≡◌, ◌≤◌, ◌^◌, None, length, drop}
 use Rattle.std.specs.Prelude.{option_map}
 use Rattle.std.specs.List.{AllByRecursion}
 use Rattle.std.specs.Option.{ForSome}
 use Rattle.czi_rig.specs.declared.file.File.TheVariants.{Image}
 use Rattle.czi_rig.specs.State.{seen_of, LeavesOther}
 use Rattle.czi_rig.specs.Passes.{GoesOn}
+use Rattle.czi_rig.specs.Faults.{Faults}
 use Rattle.czi_rig.specs.Moments.{devices, Throughout}
 use Rattle.czi_region.specs.Pieces.{IsPiece}
 use Rattle.czi_vault.specs.Recovered.{with_links, View, StandsNow}
@@ -24,6 +25,7 @@ invariant-loop-i g l = record {
   small : last_end l.end (pieces_in l.region (drop l.i l.writes)) ≤ 2 ^ 62;
   other : LeavesOther Image (g.R.Rig.state l.initial.rig) (g.R.Rig.state l.rig);
   goes_on : GoesOn (g.R.Rig.state l.initial.rig) (g.R.Rig.state l.rig);
+  cause : Faults None (g.R.Rig.state l.initial.rig) (g.R.Rig.state l.rig);
   moments : ForSome (devices (g.R.Rig.state l.initial.rig)) (λ all. (view : View) → StandsNow view all → JournalCounts all → AreFree view (filled l.image_len (pieces_in l.region l.writes))
       → AreFree view (filled l.end (pieces_in l.region (drop l.i l.writes))) × Throughout g.R.Rig l.initial.rig l.rig (StandsStill view all.said));
 }
