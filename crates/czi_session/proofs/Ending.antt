@@ -6,7 +6,7 @@ use Rattle.std.proofs.lemmas.List.{append-nil}
 use Rattle.czi_rig.specs.declared.rig.Rig.{Ghosts}
 use Rattle.czi_rig.specs.Disk.{Disk}
 use Rattle.czi_rig.specs.State.{State, Instant}
-use Rattle.czi_rig.specs.Passes.{Rose}
+use Rattle.czi_rig.specs.Faults.{Faults, FaultsWith}
 use Rattle.czi_rig.specs.Moments.{Throughout}
 use Rattle.czi_rig.proofs.Runs.{joined, weaker}
 use Rattle.czi_script.specs.declared.kind.Kind.{Kind}
@@ -19,8 +19,8 @@ use Rattle.czi_session.specs.declared.stop.Ended.{Ended}
 use Rattle.czi_session.specs.declared.stop.Ended.TheVariants.{Done, Refused, Stopped}
 use Rattle.czi_session.specs.Text.{fault_line, last_text}
 use Rattle.czi_session.specs.Course.{Model, Stands, Open, WhileSaid, WithinStep, OpensToPrefix, OpensWhatever, From, Begins, Starts, state_after, replies}
-use Rattle.czi_session.specs.Causes.{HasCauseIn, StepCauses, EndsWithCause}
-use Rattle.czi_session.specs.Ends.{Whole, StopsAt, RunStops, TextStops, TextCauses, OneStops, OneEnds, OpeningEnds, EndsSo, Quiet, Answers}
+use Rattle.czi_session.specs.Stops.{EndsAlone, end_device}
+use Rattle.czi_session.specs.Ends.{Whole, StopsAt, RunStops, TextStops, OneStops, OneEnds, OpeningEnds, EndsSo, Quiet, Answers}
 use Rattle.czi_session.proofs.Course.{prefix_between, prefix_step, prefix_last}
 use Rattle.czi_session.proofs.Spoken.{said_known_of}
 
@@ -76,10 +76,10 @@ module _ (m : Model) (state : State) (left : Option (List ℕ)) (start : m.Docum
   fault_said n kind Journal so t = absurd t
 
   pub sealed : (result : Result (Unit {0}) Stop) (old : State) (last_left : Option (List ℕ)) (on_old : Disk → Disk → m.Document → Type 0) → (w : Whole m on_old old last_left start cs end before all) → left ≡ last_left → state.said ≡ old.said
-      → OnOk result ((said : List ℕ) (s : m.Document) → Stands m on_old old said s → Stands m (OpensWhatever m) state said s) → IfErr result (λ stop. (stop ≡ Journal) × Rose old.journal_faults state.journal_faults)
+      → OnOk result ((said : List ℕ) (s : m.Document) → Stands m on_old old said s → Stands m (OpensWhatever m) state said s) → IfErr result (λ stop. stop ≡ Journal)
       → MatchResult result (λ _. Whole m (OpensWhatever m) state left start cs end before all) (λ stop. RunStops m (OpensWhatever m) state left start cs end before all stop)
   sealed (Ok u) old last_left on_old w same said ok s = record { ends = w.ends; short = w.short; taken = same ∙ w.taken; stands = ok _ _ w.stands }
-  sealed (Err stop) old last_left on_old w same said ok s = subst (λ x. RunStops m (OpensWhatever m) state left start cs end before all x) (sym s.0) (inr (w.ends, said ∙ said_known_of m on_old old _ _ w.stands))
+  sealed (Err stop) old last_left on_old w same said ok s = subst (λ x. RunStops m (OpensWhatever m) state left start cs end before all x) (sym s) (inr (w.ends, said ∙ said_known_of m on_old old _ _ w.stands))
 
   -- a run whose files didn't open
   pub unopened : (ended : Ended) → OpeningEnds state before ended → left ≡ Some all → EndsSo m state left start cs end before all ended
@@ -101,74 +101,41 @@ module _ (m : Model) (something : (s : m.Document) (c : Command) → 0 < length 
 
 module _ (m : Model) (state : State) (s : m.Document) (c : Command) (before : List ℕ) where
   pub one_ends : (result : Result (Unit {0}) Stop) (old : State) (on_old : Disk → Disk → m.Document → Type 0) → Stands m on_old old (before ++ m.reply s c) (m.after s c) → state.said ≡ old.said
-      → OnOk result ((said : List ℕ) (s : m.Document) → Stands m on_old old said s → Stands m (OpensWhatever m) state said s) → IfErr result (λ stop. (stop ≡ Journal) × Rose old.journal_faults state.journal_faults)
+      → OnOk result ((said : List ℕ) (s : m.Document) → Stands m on_old old said s → Stands m (OpensWhatever m) state said s) → IfErr result (λ stop. stop ≡ Journal)
       → MatchResult result (λ _. Stands m (OpensWhatever m) state (before ++ m.reply s c) (m.after s c)) (λ stop. OneStops m state s c before stop)
   one_ends (Ok u) old on_old w said ok e = ok _ _ w
-  one_ends (Err stop) old on_old w said ok e = inr (e.0, said ∙ said_known_of m on_old old _ _ w)
+  one_ends (Err stop) old on_old w said ok e = inr (e, said ∙ said_known_of m on_old old _ _ w)
 
   pub one_unopened : (ended : Ended) → OpeningEnds state before ended → OneEnds m state s c before ended
   one_unopened Done e = absurd e
   one_unopened Refused e = absurd e
   one_unopened (Stopped stop) e = inl e
 
--- a count that rose since later
-rose_since : (old mid new : ℕ) → old ≤ mid → Rose mid new → Rose old new
-rose_since old mid new le rose = omega (arith, le, rose)
-
 not_fault : (n : ℕ) (kind : Kind) → DoneOf ≡ Fault n kind → ⊥
 not_fault n kind e = cc
 
 module _ (m : Model) (left : Option (List ℕ)) (start : m.Document) (cs : List Command) (before all : List ℕ) (old new : State) (faults_before faults_now : ℕ) (q : Quiet old new faults_before faults_now) where
   -- where no fault came
-  pub answers : length all ≤ 2 ^ 40 → (ended : Ended) → EndsSo m new left start cs DoneOf before all ended → EndsWithCause ended old new faults_before faults_now → Answers Done ended
+  pub answers : length all ≤ 2 ^ 40 → (ended : Ended) → EndsSo m new left start cs DoneOf before all ended → FaultsWith (end_device ended) old new faults_before faults_now → Answers Done ended
   answers few Done e cause = inl refl
   answers few Refused e cause = absurd e
-  answers few (Stopped Image) e cause = absurd (q.image cause)
-  answers few (Stopped Journal) e cause = absurd (q.journal cause)
-  answers few (Stopped Output) e cause = absurd (q.output cause)
-  answers few (Stopped Input) e cause = absurd (q.input cause)
+  answers few (Stopped Image) e cause = absurd (q.image cause.rig.image_count)
+  answers few (Stopped Journal) e cause = absurd (q.journal cause.rig.journal_count)
+  answers few (Stopped Output) e cause = absurd (q.output cause.rig.output_count)
+  answers few (Stopped Input) e cause = absurd (q.input cause.input_count)
   answers few (Stopped Memory) e cause = inr refl
   answers few (Stopped TooLong) (inl e) cause = absurd e.0
   answers few (Stopped TooLong) (inr e) cause = absurd (omega (arith, few, e.longer))
   answers few (Stopped (Script n kind)) (inl e) cause = absurd e.0
   answers few (Stopped (Script n kind)) (inr e) cause = absurd (not_fault n kind e.0.0)
 
-pub one_answers : (m : Model) (s : m.Document) (c : Command) (before : List ℕ) (old new : State) → Quiet old new 0 0 → (ended : Ended) → OneEnds m new s c before ended → EndsWithCause ended old new 0 0 → Answers Done ended
-one_answers m s c before old new q Done e cause = inl refl
-one_answers m s c before old new q Refused e cause = absurd e
-one_answers m s c before old new q (Stopped Image) e cause = absurd (q.image cause)
-one_answers m s c before old new q (Stopped Journal) e cause = absurd (q.journal cause)
-one_answers m s c before old new q (Stopped Output) e cause = absurd (q.output cause)
-one_answers m s c before old new q (Stopped Input) e cause = absurd (q.input cause)
-one_answers m s c before old new q (Stopped Memory) e cause = inr refl
-one_answers m s c before old new q (Stopped TooLong) (inl e) cause = absurd e
-one_answers m s c before old new q (Stopped TooLong) (inr (inl e)) cause = absurd e
-one_answers m s c before old new q (Stopped TooLong) (inr (inr e)) cause = absurd (no_journal e.0)
-  where
-    no_journal : TooLong ≡ Journal → ⊥
-    no_journal e = cc
-one_answers m s c before old new q (Stopped (Script n kind)) (inl e) cause = absurd e
-one_answers m s c before old new q (Stopped (Script n kind)) (inr (inl e)) cause = absurd e
-one_answers m s c before old new q (Stopped (Script n kind)) (inr (inr e)) cause = absurd (no_journal n kind e.0)
-  where
-    no_journal : (n : ℕ) (kind : Kind) → Script n kind ≡ Journal → ⊥
-    no_journal n kind e = cc
-
-pub sealed_cause : (result : Result (Unit {0}) Stop) (old mid new : State) (before now : ℕ) → old.journal_faults ≤ mid.journal_faults → IfErr result (λ stop. (stop ≡ Journal) × Rose mid.journal_faults new.journal_faults)
-    → IfErr result (λ stop. HasCauseIn stop old new before now)
-sealed_cause (Ok u) old mid new before now le e = e
-sealed_cause (Err stop) old mid new before now le e = subst (λ x. HasCauseIn x old new before now) (sym e.0) (rose_since old.journal_faults mid.journal_faults new.journal_faults le e.1)
-
-pub one_cause : (result : Result (Unit {0}) Stop) (old mid new : State) → old.journal_faults ≤ mid.journal_faults → IfErr result (λ stop. (stop ≡ Journal) × Rose mid.journal_faults new.journal_faults)
-    → IfErr result (λ stop. StepCauses stop old new)
-one_cause (Ok u) old mid new le e = e
-one_cause (Err stop) old mid new le e = subst (λ x. StepCauses x old new) (sym e.0) (rose_since old.journal_faults mid.journal_faults new.journal_faults le e.1)
-
-pub text_cause : (stop : Stop) (n : ℕ) (kind : Kind) (old mid new : State) (before now : ℕ) → old.output_faults ≤ mid.output_faults → TextCauses stop n kind mid new → HasCauseIn stop old new before now
-text_cause (Script k l) n kind old mid new before now le e = tt
-text_cause Output n kind old mid new before now le e = rose_since old.output_faults mid.output_faults new.output_faults le e
-text_cause Memory n kind old mid new before now le e = tt
-text_cause Image n kind old mid new before now le e = absurd e
-text_cause Journal n kind old mid new before now le e = absurd e
-text_cause Input n kind old mid new before now le e = absurd e
-text_cause TooLong n kind old mid new before now le e = absurd e
+pub one_answers : (m : Model) (s : m.Document) (c : Command) (before : List ℕ) (old new : State) → Quiet old new 0 0 → (ended : Ended) → EndsAlone ended → OneEnds m new s c before ended → Faults (end_device ended) old new → Answers Done ended
+one_answers m s c before old new q Done alone e cause = inl refl
+one_answers m s c before old new q Refused alone e cause = absurd e
+one_answers m s c before old new q (Stopped Image) alone e cause = absurd (q.image cause.image_count)
+one_answers m s c before old new q (Stopped Journal) alone e cause = absurd (q.journal cause.journal_count)
+one_answers m s c before old new q (Stopped Output) alone e cause = absurd (q.output cause.output_count)
+one_answers m s c before old new q (Stopped Input) alone e cause = absurd alone
+one_answers m s c before old new q (Stopped Memory) alone e cause = inr refl
+one_answers m s c before old new q (Stopped TooLong) alone e cause = absurd alone
+one_answers m s c before old new q (Stopped (Script n kind)) alone e cause = absurd alone

@@ -4,4 +4,5 @@ pub mod Ending
 pub mod Midway
 pub mod Spoken
 pub mod Refusing
+pub mod Stops
 pub mod Kept

@@ -24,7 +24,7 @@ use Rattle.czi_script.proofs.Faults.{shown_fault}
 use Rattle.czi_script.proofs.Reading.{After, reads_next, reads_empty, reads_fault}
 use Rattle.czi_session.specs.declared.stop.Stop.{Stop}
 use Rattle.czi_session.specs.declared.stop.Stop.TheVariants.{Script, Image, Journal, Output, Input, Memory, TooLong}
-use Rattle.czi_session.specs.Causes.{stop_by}
+use Rattle.czi_session.specs.Stops.{stop_by}
 use Rattle.czi_session.specs.Course.{Model, Stands, Starts, OpensToPrefix, OpensWhatever, OpensNow, WithinStep, state_after, replies}
 use Rattle.czi_session.specs.Ends.{AllDone, Between, EachTaken, Failing, Beyond, Inside, Whole, StepStops, StopsAt, Takes, most_by, most_taken}
 use Rattle.czi_session.proofs.Course.{state_more, spoken_more, prefix_step}

@@ -1,15 +1,19 @@
 -- A text that is said while a document stands.
-use Rattle.std.proofs.Common.{◌≡◌, inl, inr, ℕ, Some, List, take, ◌++◌, ◌∙◌, ap}
+use Rattle.std.proofs.Common.{◌≡◌, inl, inr, ℕ, Some, List, take, ◌++◌, ◌∙◌, ap, refl, sym, subst}
 use Rattle.std.specs.Prelude.{option_map}
 use Rattle.czi_script.specs.Script.{Command}
-use Rattle.czi_session.specs.Course.{Model, Stands, EitherSide, WhileSaid, WithinStep, OpensNow, OpensWhatever}
+use Rattle.czi_session.specs.Course.{Model, OnlySays, Stands, EitherSide, WhileSaid, WithinStep, OpensNow, OpensWhatever}
 use Rattle.czi_rig.specs.declared.rig.Rig.{Ghosts}
 use Rattle.czi_rig.specs.Disk.{Disk}
 use Rattle.czi_rig.specs.State.{State, SameFiles, MayLeaveSaying}
 use Rattle.czi_rig.specs.Passes.{Passes}
 use Rattle.czi_rig.specs.Moments.{Throughout, LeavesSaying}
 use Rattle.czi_rig.proofs.Known.{said_known, known_said}
-use Rattle.czi_rig.proofs.Runs.{run_begins, run_is, run_says, weaker}
+use Rattle.czi_rig.proofs.Runs.{run_begins, run_is, run_says, started, weaker}
+use Rattle.czi_session.specs.declared.stop.EditorStop.{EditorStop}
+use Rattle.czi_session.specs.declared.stop.EditorStop.TheVariants.{Image as ImageOf, Journal as JournalOf, Memory as MemoryOf}
+use Rattle.czi_session.specs.Stops.{stop_of}
+use Rattle.czi_session.specs.Ends.{StepStops}
 
 pub while_said : (m : Model) (on : Disk → Disk → m.Document → Type 0) → OpensNow m on → (state : State) (before bytes text : List ℕ) (s : m.Document) (h : Stands m on state before s) → bytes ≡ text
     → (image journal said : List ℕ) → LeavesSaying h.now bytes image journal said → WhileSaid m s before text image journal said
@@ -52,6 +56,30 @@ module _ {D : Type 0} (rig : Ghosts D) where
       → Passes (rig.state old) (rig.state new) (rig.left_since old) (rig.left_since new) (MayLeaveSaying (rig.state old) bytes) → Throughout rig old new (WhileSaid m s before text)
   text_says {old = old} m on opens_now s bytes before text h is time =
       run_says rig bytes (run_begins rig old h.now _ h.known) time (λ i j o l. while_said m on opens_now (rig.state old) before bytes text s h is i j o l)
+
+-- a command that did nothing stopped
+pub perform_stops : (m : Model) (on : Disk → Disk → m.Document → Type 0) → OpensNow m on → (old new : State) (said : List ℕ) (s : m.Document) (c : Command) (stop : EditorStop) → Stands m on old said s → new.said ≡ old.said
+    → (stop ≡ MemoryOf → new ≡ old) → StepStops m (OpensWhatever m) new s c said (stop_of stop)
+perform_stops m on opens_now old new said s c ImageOf h same starved = same ∙ said_known_of m on old said s h
+perform_stops m on opens_now old new said s c JournalOf h same starved = same ∙ said_known_of m on old said s h
+perform_stops m on opens_now old new said s c MemoryOf h same starved =
+    subst (λ (state : State). Stands m (OpensWhatever m) state said s) (sym (starved refl)) (stands_open m on opens_now old said s h)
+
+module _ {D : Type 0} (rig : Ghosts D) where
+  -- no call was made
+  pub nothing_said : (old new : D) (text : List ℕ) → new ≡ old → OnlySays rig old new text
+  nothing_said old new text is = subst (λ (r : D). OnlySays rig old r text) (sym is) (record {
+    files = record { image = refl; journal = refl };
+    moments = λ all known. started rig old (LeavesSaying all text);
+  })
+
+  -- only a text was said
+  pub text_said : (old mid new : D) (bytes text : List ℕ) → mid ≡ old → bytes ≡ text → SameFiles (rig.state mid) (rig.state new)
+      → Passes (rig.state mid) (rig.state new) (rig.left_since mid) (rig.left_since new) (MayLeaveSaying (rig.state mid) bytes) → OnlySays rig old new text
+  text_said old mid new bytes text is same files time = subst (λ (r : D). OnlySays rig r new text) is (subst (λ (x : List ℕ). OnlySays rig mid new x) same (record {
+    files = files;
+    moments = λ all known. run_says rig bytes (run_begins rig mid all _ known) time (λ i j o now. now);
+  }))
 
 pub opens_as_said : (m : Model) → OpensNow m (OpensWhatever m)
 opens_as_said m image journal s h = h

@@ -1,15 +1,19 @@
 -- A run of commands, and what a crash leaves of it.
 use Rattle.std.specs.Prelude.{◌≡◌, ◌⊎◌, ℕ, zero, suc, ◌+◌, ◌≤◌, List, [], ◌∷◌, ◌++◌, length, take, Option, Some}
 use Rattle.std.specs.List.{concat}
+use Rattle.std.specs.Option.{ForSome}
 use Rattle.czi_script.specs.Script.{Command, End, Reads}
 use Rattle.czi_rig.specs.Disk.{Disk, Left}
-use Rattle.czi_rig.specs.State.{State, Instant}
+use Rattle.czi_rig.specs.State.{State, Instant, SameFiles}
 use Rattle.czi_rig.specs.declared.rig.Rig.{Ghosts}
-use Rattle.czi_rig.specs.Moments.{Devices, devices, Throughout, Always}
+use Rattle.czi_rig.specs.Faults.{Device}
+use Rattle.czi_rig.specs.Moments.{Devices, LeavesSaying, devices, Throughout, Always}
+use Rattle.czi_session.specs.Stops.{IsFile}
 
 -- What an editor is about: its states; which of them an image and a journal that a crash leaves open to; at which of them a
 -- run over an image and a journal begins; which pairs are refused and with what text; which pairs stand for what an earlier
--- one stood for; which journals are void; what a command makes of a state, and its reply there.
+-- one stood for; which journals are void; what a command makes of a state, and its reply there; and which commands change
+-- nothing of a state, as queries and edits that are refused.
 pub record Model : Type 1 where
   pub Document : Type 0
   pub opens : List ℕ → List ℕ → Document → Type 0
@@ -19,6 +23,7 @@ pub record Model : Type 1 where
   pub void : List ℕ → Type 0
   pub after : Document → Command → Document
   pub reply : Document → Command → List ℕ
+  pub still : Document → Command → Type 0
 
 -- the state after these commands
 abbrev pub state_after : (m : Model) → m.Document → List Command → m.Document
@@ -105,6 +110,28 @@ pub record From {D : Type 0} (rig : Ghosts D) (old new : D) (P : Instant) : Type
   pub after : Throughout rig then new P
   pub always : Always rig then new P
 
+-- From the moment at which the files are durable what a crash leaves has P. Only where one of the two files fails that moment
+-- may not have come, and then nothing new was left.
+abbrev pub OnceDurable : {D : Type 0} → Ghosts D → D → D → Instant → Option Device → Type 0
+OnceDurable rig old new P at = (Nothing rig old new × IsFile at) ⊎ From rig old new P
+
+-- Both files were left alone while this text was said: a crash leaves what it could leave of them before.
+pub record OnlySays {D : Type 0} (rig : Ghosts D) (old new : D) (text : List ℕ) : Type 0 where
+  pub files : SameFiles (rig.state old) (rig.state new)
+  pub moments : ForSome (devices (rig.state old)) (λ all. Throughout rig old new (LeavesSaying all text))
+
+-- Both files were left alone while this reply was said; and then the journal was sealed at most, at a state.
+pub record RepliesOnly {D : Type 0} (rig : Ghosts D) (old new : D) (m : Model) (said reply : List ℕ) (s : m.Document) : Type 0 where
+  pub replied : D
+  pub replying : OnlySays rig old replied reply
+  pub sealing : Throughout rig replied new (Open m s (said ++ reply))
+
+-- The files were opened at a state, then left alone while this reply was said, and then the journal was sealed at most.
+pub record OnlyReads {D : Type 0} (rig : Ghosts D) (old new : D) (m : Model) (said reply : List ℕ) (first last : m.Document) : Type 0 where
+  pub opened : D
+  pub opening : From rig old opened (Open m first said)
+  pub replying : RepliesOnly rig opened new m said reply last
+
 -- a run begins at a state, over an input that is told
 pub record Starts (m : Model) (on : Disk → Disk → m.Document → Type 0) (left : Option (List ℕ)) (state : State) (cs : List Command) (end : End) (said : List ℕ) (s : m.Document) : Type 0 where
   pub input : List ℕ
@@ -127,11 +154,16 @@ OpensNow m on = (image journal : Disk) (s : m.Document) → on image journal s �
 abbrev pub IsUnrefused : Model → State → Type 0
 IsUnrefused m state = (all : Devices) (text : List ℕ) → devices state ≡ Some all → m.refuses all.image.seen all.journal.seen text → ⊥
 
--- what a crash leaves stands for what these files stood for
+-- what a crash leaves stands for what these files stood for, and nothing was said
 abbrev pub KeepsFiles : Model → Devices → Instant
-KeepsFiles m all image journal said = m.keeps all.image.seen all.journal.seen image journal
+KeepsFiles m all image journal said = m.keeps all.image.seen all.journal.seen image journal × (said ≡ all.said)
 
--- Files that are refused are kept: until they are durable nothing new is left, and from then on what stands for the same.
-abbrev pub KeepsRefused : {D : Type 0} → Ghosts D → D → D → Model → Type 0
-KeepsRefused rig old new m = (all : Devices) (text : List ℕ) → devices (rig.state old) ≡ Some all → m.refuses all.image.seen all.journal.seen text
-    → Nothing rig old new ⊎ From rig old new (KeepsFiles m all)
+-- the same while this text is said
+abbrev pub KeepsSaying : Model → Devices → List ℕ → Instant
+KeepsSaying m all text image journal said = (n : ℕ) × (n ≤ length text) × (said ≡ all.said ++ take n text) × m.keeps all.image.seen all.journal.seen image journal
+
+-- Files that are refused are kept, and nothing is said but a front of the text that says why: until they are durable nothing
+-- new is left, and from then on what stands for the same.
+abbrev pub KeepsRefused : {D : Type 0} → Ghosts D → D → D → Model → Option Device → Type 0
+KeepsRefused rig old new m at = (all : Devices) (text : List ℕ) → devices (rig.state old) ≡ Some all → m.refuses all.image.seen all.journal.seen text
+    → OnceDurable rig old new (KeepsSaying m all text) at

@@ -2,7 +2,6 @@
 use Rattle.std.specs.Prelude.{◌≡◌, ◌⊎◌, ℕ, ◌+◌, ◌<◌, ◌≤◌, ◌^◌, List, [], ◌∷◌, ◌++◌, length, take, drop, Option, Some, Result, Ok, Err}
 use Rattle.std.specs.Option.{ForSome}
 use Rattle.std.specs.List.{concat}
-use Rattle.czi_rig.specs.declared.rig.Rig.{Ghosts}
 use Rattle.czi_rig.specs.Disk.{Disk}
 use Rattle.czi_rig.specs.State.{State}
 use Rattle.czi_rig.specs.Moments.{Devices, devices}
@@ -18,17 +17,12 @@ use Rattle.czi_session.specs.declared.stop.Stop.TheVariants.{Script, Image, Jour
 use Rattle.czi_session.specs.declared.stop.Ended.{Ended}
 use Rattle.czi_session.specs.declared.stop.Ended.TheVariants.{Done, Refused, Stopped}
 use Rattle.czi_session.specs.Text.{fault_line}
-use Rattle.czi_session.specs.Course.{From, KeepsFiles, Model, Nothing, Stands, OpensWhatever, state_after, replies}
+use Rattle.czi_session.specs.Course.{Model, Stands, OpensWhatever, state_after, replies}
 
 -- a pair that opens isn't refused
 abbrev pub OpensSo : OpenStop → Type 0
 OpensSo (RefusedOf text) = ⊥
 OpensSo (StoppedOf stop) = Unit {0}
-
--- Files that are refused are kept. Where that is told they were made durable; a device may fail before.
-abbrev pub IsKept : {D : Type 0} → Ghosts D → D → D → Model → Devices → OpenStop → Type 0
-IsKept rig old new m all (RefusedOf text) = From rig old new (KeepsFiles m all)
-IsKept rig old new m all (StoppedOf stop) = Nothing rig old new ⊎ From rig old new (KeepsFiles m all)
 
 -- a refusal is that of the pair
 abbrev pub Refuses : Model → List ℕ → List ℕ → OpenStop → Type 0
@@ -36,12 +30,13 @@ Refuses m image journal (RefusedOf text) = m.refuses image journal text.items
 Refuses m image journal (StoppedOf stop) = Unit {0}
 
 module _ (m : Model) (on : Disk → Disk → m.Document → Type 0) (state : State) where
-  -- Where one command and its reply stop, this was said. At a fault of the output the state after it stands.
+  -- Where one command and its reply stop, this was said. At a fault of the output the state after it stands, and where memory
+  -- is wanting the one before it.
   abbrev pub StepStops : m.Document → Command → List ℕ → Stop → Type 0
   StepStops s c before Output = (n : ℕ) × (n ≤ length (m.reply s c)) × Stands m on state (before ++ take n (m.reply s c)) (m.after s c)
   StepStops s c before Image = state.said ≡ Some before
   StepStops s c before Journal = state.said ≡ Some before
-  StepStops s c before Memory = state.said ≡ Some before
+  StepStops s c before Memory = Stands m on state before s
   StepStops s c before Input = ⊥
   StepStops s c before (Script number kind) = ⊥
   StepStops s c before TooLong = ⊥
@@ -129,16 +124,6 @@ module _ (m : Model) (on : Disk → Disk → m.Document → Type 0) (state : Sta
   TextStops s number kind before Input = ⊥
   TextStops s number kind before TooLong = ⊥
 
--- a fault's text stops only so
-abbrev pub TextCauses : Stop → ℕ → Kind → State → State → Type 0
-TextCauses (Script n k) number kind old new = (n ≡ number) × (k ≡ kind)
-TextCauses Output number kind old new = Rose old.output_faults new.output_faults
-TextCauses Memory number kind old new = Unit {0}
-TextCauses Image number kind old new = ⊥
-TextCauses Journal number kind old new = ⊥
-TextCauses Input number kind old new = ⊥
-TextCauses TooLong number kind old new = ⊥
-
 -- an opening of files that open stops so: nothing was said
 abbrev pub OpeningSays : State → List ℕ → Stop → Type 0
 OpeningSays state said Image = state.said ≡ Some said
@@ -157,6 +142,23 @@ OpeningEnds state said (Stopped stop) = OpeningSays state said stop
 -- where all is known, the pair is one that is refused, and what was said is its text
 abbrev pub RefusedSo : Model → State → State → Type 0
 RefusedSo m old new = (all : Devices) → devices old ≡ Some all → (text : List ℕ) × m.refuses all.image.seen all.journal.seen text × (new.said ≡ Some (all.said ++ text))
+
+-- How a run over a pair ends that is refused with this text: it was said whole; a front of it, where the output failed; and
+-- nothing, where a file failed or memory was wanting.
+abbrev pub SaysRefusal : Option (List ℕ) → List ℕ → List ℕ → Ended → Type 0
+SaysRefusal said before text Done = ⊥
+SaysRefusal said before text Refused = said ≡ Some (before ++ text)
+SaysRefusal said before text (Stopped Image) = said ≡ Some before
+SaysRefusal said before text (Stopped Journal) = said ≡ Some before
+SaysRefusal said before text (Stopped Output) = (n : ℕ) × (n ≤ length text) × (said ≡ Some (before ++ take n text))
+SaysRefusal said before text (Stopped Memory) = said ≡ Some before
+SaysRefusal said before text (Stopped Input) = ⊥
+SaysRefusal said before text (Stopped (Script number kind)) = ⊥
+SaysRefusal said before text (Stopped TooLong) = ⊥
+
+-- the same of each text with which the pair is refused
+abbrev pub RefusedEnds : Model → State → State → Ended → Type 0
+RefusedEnds m old new ended = (all : Devices) (text : List ℕ) → devices old ≡ Some all → m.refuses all.image.seen all.journal.seen text → SaysRefusal new.said all.said text ended
 
 -- the same, with nothing taken
 abbrev pub OpeningStops : State → Option (List ℕ) → List ℕ → List ℕ → Stop → Type 0

@@ -1,4 +1,4 @@
-pub mod Causes
+pub mod Stops
 pub mod Course
 pub mod Ends
 pub mod Text

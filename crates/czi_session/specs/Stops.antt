@@ -1,7 +1,6 @@
--- When a run stops.
-use Rattle.std.specs.Prelude.{ℕ}
-use Rattle.czi_rig.specs.State.{State}
-use Rattle.czi_rig.specs.Passes.{Rose}
+-- How a run stops, and of which device that tells a fault.
+use Rattle.std.specs.Prelude.{Option, None, Some}
+use Rattle.czi_rig.specs.Faults.{Device, image, journal, output, input}
 use Rattle.czi_script.specs.declared.error.ScriptError.{ScriptError}
 use Rattle.czi_script.specs.declared.error.ScriptError.TheVariants.{Fault as FaultError, Input as InputError, TooLong as TooLongError, Memory as MemoryError}
 use Rattle.czi_session.specs.declared.stop.EditorStop.{EditorStop}
@@ -26,62 +25,54 @@ stop_by InputError = Input
 stop_by TooLongError = TooLong
 stop_by MemoryError = Memory
 
--- an editor can't go on only so
-abbrev pub EditorStops : EditorStop → State → State → Type 0
-EditorStops ImageOf old new = Rose old.image_faults new.image_faults
-EditorStops JournalOf old new = Rose old.journal_faults new.journal_faults
-EditorStops MemoryOf old new = Unit {0}
+-- the device that failed, where a run stops by a fault of one
+abbrev pub stop_device : Stop → Option Device
+stop_device (Script number kind) = None
+stop_device Image = Some image
+stop_device Journal = Some journal
+stop_device Output = Some output
+stop_device Input = Some input
+stop_device Memory = None
+stop_device TooLong = None
 
-abbrev pub OpenStops : OpenStop → State → State → Type 0
-OpenStops (RefusedOf text) old new = Unit {0}
-OpenStops (StoppedOf stop) old new = EditorStops stop old new
+abbrev pub editor_device : EditorStop → Option Device
+editor_device stop = stop_device (stop_of stop)
 
--- a fault of a device or the input comes only where its count rose
-abbrev pub HasCauseIn : Stop → State → State → ℕ → ℕ → Type 0
-HasCauseIn Image old new before now = Rose old.image_faults new.image_faults
-HasCauseIn Journal old new before now = Rose old.journal_faults new.journal_faults
-HasCauseIn Output old new before now = Rose old.output_faults new.output_faults
-HasCauseIn Input old new before now = Rose before now
-HasCauseIn (Script number kind) old new before now = Unit {0}
-HasCauseIn Memory old new before now = Unit {0}
-HasCauseIn TooLong old new before now = Unit {0}
+abbrev pub open_device : OpenStop → Option Device
+open_device (RefusedOf text) = None
+open_device (StoppedOf stop) = editor_device stop
 
--- one command and its reply stop only so
-abbrev pub StepCauses : Stop → State → State → Type 0
-StepCauses Image old new = Rose old.image_faults new.image_faults
-StepCauses Journal old new = Rose old.journal_faults new.journal_faults
-StepCauses Output old new = Rose old.output_faults new.output_faults
-StepCauses Memory old new = Unit {0}
-StepCauses Input old new = ⊥
-StepCauses (Script number kind) old new = ⊥
-StepCauses TooLong old new = ⊥
+abbrev pub end_device : Ended → Option Device
+end_device Done = None
+end_device Refused = None
+end_device (Stopped stop) = stop_device stop
 
--- a run ends so only where the count of the file, the output or the input rose
-abbrev pub EndsWithCause : Ended → State → State → ℕ → ℕ → Type 0
-EndsWithCause Done old new before now = Unit {0}
-EndsWithCause Refused old new before now = Unit {0}
-EndsWithCause (Stopped stop) old new before now = HasCauseIn stop old new before now
+-- the device is one of the two files
+abbrev pub IsFile : Option Device → Type 0
+IsFile None = ⊥
+IsFile (Some image) = Unit {0}
+IsFile (Some journal) = Unit {0}
+IsFile (Some output) = ⊥
+IsFile (Some input) = ⊥
 
--- opening the files and saying their refusal ends only so
-abbrev pub OpenedCauses : Ended → State → State → Type 0
-OpenedCauses Done old new = ⊥
-OpenedCauses Refused old new = Unit {0}
-OpenedCauses (Stopped stop) old new = StepCauses stop old new
+-- a stop to which no script and no input can lead
+abbrev pub StopsAlone : Stop → Type 0
+StopsAlone (Script number kind) = ⊥
+StopsAlone Image = Unit {0}
+StopsAlone Journal = Unit {0}
+StopsAlone Output = Unit {0}
+StopsAlone Input = ⊥
+StopsAlone Memory = Unit {0}
+StopsAlone TooLong = ⊥
 
--- an ending to which no script and no input can lead
+-- the same of an ending
 abbrev pub EndsAlone : Ended → Type 0
 EndsAlone Done = Unit {0}
 EndsAlone Refused = Unit {0}
-EndsAlone (Stopped Image) = Unit {0}
-EndsAlone (Stopped Journal) = Unit {0}
-EndsAlone (Stopped Output) = Unit {0}
-EndsAlone (Stopped Memory) = Unit {0}
-EndsAlone (Stopped Input) = ⊥
-EndsAlone (Stopped (Script number kind)) = ⊥
-EndsAlone (Stopped TooLong) = ⊥
+EndsAlone (Stopped stop) = StopsAlone stop
 
 -- the same, before any command was done
 abbrev pub EndsUnopened : Ended → Type 0
 EndsUnopened Done = ⊥
 EndsUnopened Refused = Unit {0}
-EndsUnopened (Stopped stop) = EndsAlone (Stopped stop)
+EndsUnopened (Stopped stop) = StopsAlone stop

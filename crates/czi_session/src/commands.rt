@@ -1,11 +1,12 @@
 //! The commands of a script, one after another.
 
-ghost use Rattle.std.specs.Prelude.{◌≡◌, ◌++◌, ◌≤◌, List, ℕ, Option, MatchResult, IfErr, OnOk, is_some};
+ghost use Rattle.std.specs.Prelude.{◌≡◌, ◌++◌, ◌≤◌, List, ℕ, Option, MatchResult, OnOk, is_some};
+ghost use Rattle.czi_rig.specs.Faults.{FaultsWith, fault_at};
 ghost use Rattle.czi_rig.specs.Passes.{GoesOn};
 ghost use Rattle.czi_rig.specs.Moments.{Throughout};
 ghost use Rattle.czi_script.specs.Script.{Command as Cmd, End};
 ghost use Rattle.czi_session.specs.Course.{Starts, OpensToPrefix, OpensWhatever};
-ghost use Rattle.czi_session.specs.Causes.{HasCauseIn, stop_by};
+ghost use Rattle.czi_session.specs.Stops.{stop_by, stop_device};
 ghost use Rattle.czi_session.specs.Ends.{Whole, StopsAt, Takes, most_taken};
 
 use crate::steps::step;
@@ -43,7 +44,7 @@ pub(crate) fn commands<E: Editor, R: Rig, S: Source>(
     ensures takes { Takes (S.input input.old).left (S.input input.new).left (most_taken result) }
     ensures goes_on { GoesOn (R.state rig.old) (R.state rig.new) }
     ensures later { (S.input input.old).faults ≤ (S.input input.new).faults }
-    ensures cause { IfErr result (λ stop. HasCauseIn stop (R.state rig.old) (R.state rig.new) (S.input input.old).faults (S.input input.new).faults) }
+    ensures cause { FaultsWith (fault_at stop_device result) (R.state rig.old) (R.state rig.new) (S.input input.old).faults (S.input input.new).faults }
 {
     let Ok(mut reader) = ScriptReader::new(alloc) else {
         return Err(Stop::Memory);

@@ -1,16 +1,17 @@
 //! Editors of an image and a journal.
 
-ghost use Rattle.std.specs.Prelude.{◌≡◌, ◌⊎◌, ◌<◌, ◌++◌, List, ℕ, Option, Result, MatchResult, IfOk, IfErr, OnOk, OnErr, length};
+ghost use Rattle.std.specs.Prelude.{◌≡◌, ◌<◌, ◌++◌, List, ℕ, Option, Result, MatchResult, IfOk, IfErr, OnOk, length};
 ghost use Rattle.std.specs.Option.{ForSome};
 ghost use Rattle.czi_rig.specs.Disk.{Disk, Left};
 ghost use Rattle.czi_rig.specs.State.{State, SameFiles, seen_of};
-ghost use Rattle.czi_rig.specs.Passes.{GoesOn, Rose};
+ghost use Rattle.czi_rig.specs.Faults.{Faults, device_of, failed_at, fault_at};
+ghost use Rattle.czi_rig.specs.Passes.{GoesOn};
 ghost use Rattle.czi_rig.specs.Moments.{Throughout, Devices, devices};
 ghost use Rattle.czi_script.specs.Script.{Command as Cmd};
 ghost use Rattle.czi_script.specs.View.{command_of};
-ghost use Rattle.czi_session.specs.Course.{Model, Stands, EitherSide, Open, Opening, OpensWhatever, From, IsUnrefused, Nothing};
-ghost use Rattle.czi_session.specs.Causes.{EditorStops, OpenStops};
-ghost use Rattle.czi_session.specs.Ends.{IsKept, Refuses, OpensSo};
+ghost use Rattle.czi_session.specs.Course.{EitherSide, From, IsUnrefused, KeepsFiles, Model, OnceDurable, Open, Opening, OpensWhatever, Stands};
+ghost use Rattle.czi_session.specs.Stops.{editor_device, open_device};
+ghost use Rattle.czi_session.specs.Ends.{OpensSo, Refuses};
 
 use crate::{EditorStop, OpenStop};
 use czi_rig::{Failed, File, Rig};
@@ -33,26 +34,26 @@ pub trait Editor: Drop {
     ///
     /// # Errors
     ///
-    /// `Refused` where the pair is refused, with the text that says why. Else it is a fault of a file whose count rose,
-    /// or want of memory. Files that are refused are kept: what a crash leaves stands for what they stood for.
+    /// `Refused` where the pair is refused, with the text that says why. Else it is a fault of a file, whose count alone
+    /// rose, or want of memory. Files that are refused are kept: what a crash leaves stands for what they stood for.
     fn open<R: Rig>(alloc: Global, rig: &mut R) -> Result<Self, OpenStop>
         ensures opens { (said : List ℕ) (s : model.Document) → Opening model (R.state rig.old) said s → MatchResult result
             (λ editor. From R.Rig rig.old rig.new (Open model s said) × Stands model (stands editor) (R.state rig.new) said s)
-            (λ stop. OpensSo stop × (Nothing R.Rig rig.old rig.new ⊎ From R.Rig rig.old rig.new (Open model s said))) }
+            (λ stop. OpensSo stop × OnceDurable R.Rig rig.old rig.new (Open model s said) (open_device stop)) }
         ensures ready { IfOk result (λ editor. ready editor (R.state rig.new)) }
         ensures unrefused { OnOk result (IsUnrefused model (R.state rig.old)) }
         ensures refused { IfErr result (λ stop. (all : Devices) → devices (R.state rig.old) ≡ Option.Some all → Refuses model all.image.seen all.journal.seen stop) }
-        ensures kept { IfErr result (λ stop. (all : Devices) (text : List ℕ) → devices (R.state rig.old) ≡ Option.Some all → model.refuses all.image.seen all.journal.seen text → IsKept R.Rig rig.old rig.new model all stop) }
+        ensures kept { IfErr result (λ stop. (all : Devices) (text : List ℕ) → devices (R.state rig.old) ≡ Option.Some all → model.refuses all.image.seen all.journal.seen text → OnceDurable R.Rig rig.old rig.new (KeepsFiles model all) (open_device stop)) }
         ensures said { (R.state rig.new).said ≡ (R.state rig.old).said }
         ensures goes_on { GoesOn (R.state rig.old) (R.state rig.new) }
-        ensures cause { IfErr result (λ stop. OpenStops stop (R.state rig.old) (R.state rig.new)) };
+        ensures cause { Faults (fault_at open_device result) (R.state rig.old) (R.state rig.new) };
 
     /// Does a command, and appends its reply. That a command is refused is a reply too. After an `Err` it may not be
     /// used again.
     ///
     /// # Errors
     ///
-    /// A fault of a file whose count rose, or want of memory.
+    /// A fault of a file, whose count alone rose, or want of memory.
     fn perform<R: Rig>(
         &mut self,
         alloc: Global,
@@ -68,13 +69,18 @@ pub trait Editor: Drop {
         ensures ready { OnOk result (ready self.new (R.state rig.new)) }
         ensures said { (R.state rig.new).said ≡ (R.state rig.old).said }
         ensures goes_on { GoesOn (R.state rig.old) (R.state rig.new) }
-        ensures cause { IfErr result (λ stop. EditorStops stop (R.state rig.old) (R.state rig.new)) };
+        // Where the command changes nothing, no call on the device is made, and memory alone may be wanting.
+        ensures still { (said : List ℕ) (s : model.Document) → Stands model (stands self.old) (R.state rig.old) said s → model.still s (command_of command.now) →
+            (fault_at editor_device result ≡ Option.None) × (rig.new ≡ rig.old) }
+        // All memory is taken before the first call.
+        ensures starved { result ≡ Result.Err EditorStop.Memory → rig.new ≡ rig.old }
+        ensures cause { Faults (fault_at editor_device result) (R.state rig.old) (R.state rig.new) };
 
     /// Makes the journal void.
     ///
     /// # Errors
     ///
-    /// A call on the journal failed, and its count of faults rose.
+    /// A call on the journal failed, and its count of faults alone rose.
     fn seal<R: Rig>(self, rig: &mut R) -> Result<(), Failed>
         requires ready { ready self (R.state rig.old) }
         ensures moments { (said : List ℕ) (s : model.Document) → Stands model (stands self) (R.state rig.old) said s → Throughout R.Rig rig.old rig.new (Open model s said) }
@@ -82,13 +88,16 @@ pub trait Editor: Drop {
         ensures void { OnOk result (ForSome (seen_of (R.state rig.new) File.Journal) model.void) }
         ensures said { (R.state rig.new).said ≡ (R.state rig.old).said }
         ensures goes_on { GoesOn (R.state rig.old) (R.state rig.new) }
-        ensures cause { OnErr result (Rose (R.state rig.old).journal_faults (R.state rig.new).journal_faults) };
+        ensures cause { Faults (failed_at result (device_of File.Journal)) (R.state rig.old) (R.state rig.new) };
 
     /// Whatever a crash leaves of the files that it stands on opens to its state.
     ghost opens_now: { (editor : Self) (image journal : Disk) (s : model.Document) → stands editor image journal s → (i j : List ℕ) → Left image.durable i → Left journal.durable j → model.opens i j s };
 
     /// It stays ready where both files stay as they are.
     ghost stays_ready: { (editor : Self) (old new : State) → ready editor old → SameFiles old new → GoesOn old new → ready editor new };
+
+    /// A pair is refused with one text.
+    ghost refused_once: { (image journal text other : List ℕ) → model.refuses image journal text → model.refuses image journal other → text ≡ other };
 
     /// No reply is empty.
     ghost says_something: { (s : model.Document) (c : Cmd) → 0 < length (model.reply s c) };

@@ -3,12 +3,13 @@
 ghost use Rattle.std.specs.Prelude.{◌≡◌, ◌⊎◌, ◌++◌, List, ℕ, Option, MatchResult, IfOk, IfErr, OnOk};
 ghost use Rattle.std.specs.Option.{ForSome};
 ghost use Rattle.czi_rig.specs.State.{seen_of};
-ghost use Rattle.czi_rig.specs.Passes.{GoesOn, Rose};
+ghost use Rattle.czi_rig.specs.Faults.{Faults, fault_at};
+ghost use Rattle.czi_rig.specs.Passes.{GoesOn};
 ghost use Rattle.czi_rig.specs.Moments.{Throughout, Devices, LeavesSaying, devices};
 ghost use Rattle.czi_script.specs.View.{command_of};
-ghost use Rattle.czi_session.specs.Course.{KeepsRefused, Stands, Open, Opening, OpensWhatever, From, IsUnrefused, Nothing, WithinStep, WhileSaid};
-ghost use Rattle.czi_session.specs.Causes.{StepCauses, OpenedCauses};
-ghost use Rattle.czi_session.specs.Ends.{StepStops, TextStops, TextCauses, OpeningEnds, RefusedSo};
+ghost use Rattle.czi_session.specs.Course.{From, IsUnrefused, KeepsRefused, OnceDurable, OnlySays, Open, Opening, OpensWhatever, Stands, WhileSaid, WithinStep};
+ghost use Rattle.czi_session.specs.Stops.{EndsUnopened, IsFile, StopsAlone, end_device, stop_device};
+ghost use Rattle.czi_session.specs.Ends.{SaysRefusal, OpeningEnds, RefusedEnds, RefusedSo, StepStops, TextStops};
 ghost use Rattle.czi_session.specs.Text.{fault_line};
 
 use crate::stop::stop_of;
@@ -20,10 +21,11 @@ use std::alloc::Global;
 
 /// Says why a pair is refused.
 fn say_refusal<R: Rig>(rig: &mut R, text: &[u8]) -> Ended
-    ensures said { result ≡ Ended.Refused → (said : List ℕ) → (R.state rig.old).said ≡ Option.Some said → (R.state rig.new).said ≡ Option.Some (said ++ text.now) }
+    ensures said { (said : List ℕ) → (R.state rig.old).said ≡ Option.Some said → SaysRefusal (R.state rig.new).said said text.now result }
     ensures moments { ForSome (devices (R.state rig.old)) (λ all. Throughout R.Rig rig.old rig.new (LeavesSaying all text.now)) }
+    ensures unopened { EndsUnopened result }
     ensures goes_on { GoesOn (R.state rig.old) (R.state rig.new) }
-    ensures cause { OpenedCauses result (R.state rig.old) (R.state rig.new) }
+    ensures cause { Faults (end_device result) (R.state rig.old) (R.state rig.new) }
 {
     match rig.say(text) {
         Ok(()) => Ended::Refused,
@@ -35,13 +37,15 @@ fn say_refusal<R: Rig>(rig: &mut R, text: &[u8]) -> Ended
 pub(crate) fn opened<E: Editor, R: Rig>(alloc: Global, rig: &mut R) -> Result<E, Ended>
     ensures opens { (said : List ℕ) (s : E.model.Document) → Opening E.model (R.state rig.old) said s → MatchResult result
         (λ editor. From R.Rig rig.old rig.new (Open E.model s said) × Stands E.model (E.stands editor) (R.state rig.new) said s)
-        (λ ended. OpeningEnds (R.state rig.new) said ended × (Nothing R.Rig rig.old rig.new ⊎ From R.Rig rig.old rig.new (Open E.model s said))) }
+        (λ ended. OpeningEnds (R.state rig.new) said ended × OnceDurable R.Rig rig.old rig.new (Open E.model s said) (end_device ended)) }
     ensures ready { IfOk result (λ editor. E.ready editor (R.state rig.new)) }
     ensures unrefused { OnOk result (IsUnrefused E.model (R.state rig.old)) }
     ensures refused { IfErr result (λ ended. ended ≡ Ended.Refused → RefusedSo E.model (R.state rig.old) (R.state rig.new)) }
-    ensures kept { IfErr result (λ _. KeepsRefused R.Rig rig.old rig.new E.model) }
+    ensures kept { IfErr result (λ ended. KeepsRefused R.Rig rig.old rig.new E.model (end_device ended)) }
+    ensures refusal { IfErr result (RefusedEnds E.model (R.state rig.old) (R.state rig.new)) }
+    ensures unopened { IfErr result EndsUnopened }
     ensures goes_on { GoesOn (R.state rig.old) (R.state rig.new) }
-    ensures cause { IfErr result (λ ended. OpenedCauses ended (R.state rig.old) (R.state rig.new)) }
+    ensures cause { Faults (fault_at end_device result) (R.state rig.old) (R.state rig.new) }
 {
     match E::open(alloc, rig) {
         Ok(editor) => Ok(editor),
@@ -65,8 +69,12 @@ pub(crate) fn step<E: Editor, R: Rig>(
     ensures ready { OnOk result (E.ready editor.new (R.state rig.new)) }
     ensures stops { IfErr result (λ stop. (said : List ℕ) (s : E.model.Document) → Stands E.model (E.stands editor.old) (R.state rig.old) said s →
         StepStops E.model (OpensWhatever E.model) (R.state rig.new) s (command_of command.now) said stop) }
+    // A command that changes nothing leaves both files alone, and stops for no fault of them.
+    ensures still { (said : List ℕ) (s : E.model.Document) → Stands E.model (E.stands editor.old) (R.state rig.old) said s → E.model.still s (command_of command.now) →
+        OnlySays R.Rig rig.old rig.new (E.model.reply s (command_of command.now)) × (IsFile (fault_at stop_device result) → ⊥) }
+    ensures alone { IfErr result StopsAlone }
     ensures goes_on { GoesOn (R.state rig.old) (R.state rig.new) }
-    ensures cause { IfErr result (λ stop. StepCauses stop (R.state rig.old) (R.state rig.new)) }
+    ensures cause { Faults (fault_at stop_device result) (R.state rig.old) (R.state rig.new) }
 {
     let mut reply = Vec::new(alloc);
     match editor.perform(alloc, rig, command, &mut reply) {
@@ -85,8 +93,9 @@ pub(crate) fn sealed<E: Editor, R: Rig>(editor: E, rig: &mut R) -> Result<(), St
     ensures ok { OnOk result ((said : List ℕ) (s : E.model.Document) → Stands E.model (E.stands editor) (R.state rig.old) said s → Stands E.model (OpensWhatever E.model) (R.state rig.new) said s) }
     ensures void { OnOk result (ForSome (seen_of (R.state rig.new) File.Journal) E.model.void) }
     ensures said { (R.state rig.new).said ≡ (R.state rig.old).said }
+    ensures only { IfErr result (λ stop. stop ≡ Stop.Journal) }
     ensures goes_on { GoesOn (R.state rig.old) (R.state rig.new) }
-    ensures cause { IfErr result (λ stop. (stop ≡ Stop.Journal) × Rose (R.state rig.old).journal_faults (R.state rig.new).journal_faults) }
+    ensures cause { Faults (fault_at stop_device result) (R.state rig.old) (R.state rig.new) }
 {
     match editor.seal(rig) {
         Ok(()) => Ok(()),
@@ -103,8 +112,9 @@ pub(crate) fn say_fault<E: Editor, R: Rig>(
 ) -> Stop
     ensures moments { (said : List ℕ) (s : E.model.Document) → Stands E.model (OpensWhatever E.model) (R.state rig.old) said s → Throughout R.Rig rig.old rig.new (WhileSaid E.model s said (fault_line number kind)) }
     ensures stops { (said : List ℕ) (s : E.model.Document) → Stands E.model (OpensWhatever E.model) (R.state rig.old) said s → TextStops E.model (OpensWhatever E.model) (R.state rig.new) s number kind said result }
+    ensures only { (result ≡ Stop.Script number kind) ⊎ (result ≡ Stop.Output) ⊎ (result ≡ Stop.Memory) }
     ensures goes_on { GoesOn (R.state rig.old) (R.state rig.new) }
-    ensures cause { TextCauses result number kind (R.state rig.old) (R.state rig.new) }
+    ensures cause { Faults (stop_device result) (R.state rig.old) (R.state rig.new) }
 {
     match fault_text(alloc, number, kind) {
         Ok(text) => match rig.say(&text) {

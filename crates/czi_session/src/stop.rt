@@ -1,16 +1,16 @@
 //! How a run ends.
 
 ghost use Rattle.std.specs.Prelude.{◌≡◌};
-ghost use Rattle.czi_session.specs.Causes.{stop_of};
+ghost use Rattle.czi_session.specs.Stops.{stop_of};
 
 use czi_script::Kind;
 
 /// Why an editor can't go on with a command.
 #[derive(Clone, Copy, PartialEq, Eq)]
 pub enum EditorStop {
-    /// A call on the image failed, and its count of faults rose.
+    /// A call on the image failed, and its count of faults alone rose.
     Image,
-    /// A call on the journal failed, and its count of faults rose.
+    /// A call on the journal failed, and its count of faults alone rose.
     Journal,
     /// Memory is wanting.
     Memory,
@@ -30,13 +30,13 @@ pub enum OpenStop {
 pub enum Stop {
     /// The input isn't a script. It was said which command is none, and why.
     Script(u64, Kind),
-    /// A call on the image failed, and its count of faults rose.
+    /// A call on the image failed, and its count of faults alone rose.
     Image,
-    /// A call on the journal failed, and its count of faults rose.
+    /// A call on the journal failed, and its count of faults alone rose.
     Journal,
-    /// A call on the output failed, and its count of faults rose.
+    /// A call on the output failed, and its count of faults alone rose.
     Output,
-    /// A call on the input failed, and its count of faults rose.
+    /// A call on the input failed, and its count of faults alone rose.
     Input,
     /// Memory is wanting.
     Memory,

@@ -1,16 +1,17 @@
 //! A run over a script, and one command alone.
 
-ghost use Rattle.std.specs.Prelude.{◌≡◌, ◌⊎◌, ◌++◌, ◌∷◌, ◌≤◌, ◌^◌, List, ℕ, [], Option, MatchResult, IfErr, OnOk, length};
+ghost use Rattle.std.specs.Prelude.{◌≡◌, ◌≢◌, ◌⊎◌, ◌++◌, ◌∷◌, ◌≤◌, ◌^◌, List, ℕ, [], Err, Option, MatchResult, IfErr, OnOk, length};
 ghost use Rattle.std.specs.Option.{ForSome};
 ghost use Rattle.czi_rig.specs.State.{seen_of};
+ghost use Rattle.czi_rig.specs.Faults.{Faults, FaultsWith, fault_at};
 ghost use Rattle.czi_rig.specs.Passes.{GoesOn};
 ghost use Rattle.czi_rig.specs.Moments.{Devices, Throughout, devices};
 ghost use Rattle.czi_script.specs.Script.{Command as Cmd, End};
 ghost use Rattle.czi_script.specs.View.{command_of};
-ghost use Rattle.czi_session.specs.Course.{KeepsRefused, Starts, Begins, IsUnrefused, Opening, Nothing, From, Stands, OpensToPrefix, OpensWhatever};
+ghost use Rattle.czi_session.specs.Course.{Begins, IsUnrefused, KeepsRefused, OnceDurable, OnlyReads, Opening, OpensToPrefix, OpensWhatever, RepliesOnly, Stands, Starts};
 ghost use Rattle.czi_session.specs.Text.{last_text};
-ghost use Rattle.czi_session.specs.Causes.{HasCauseIn, StepCauses, EndsAlone, EndsUnopened, EndsWithCause, OpenedCauses};
-ghost use Rattle.czi_session.specs.Ends.{Whole, RunStops, EndsSo, OneStops, OneEnds, RefusedSo, Takes, most_taken, most_of, Quiet, Answers};
+ghost use Rattle.czi_session.specs.Stops.{EndsAlone, EndsUnopened, StopsAlone, end_device, stop_device};
+ghost use Rattle.czi_session.specs.Ends.{Answers, EndsSo, OneEnds, OneStops, OpeningEnds, Quiet, RefusedEnds, RefusedSo, RunStops, Takes, Whole, most_of, most_taken};
 
 use crate::commands::commands;
 use crate::steps::{opened, say_fault, sealed, step};
@@ -36,7 +37,7 @@ fn script<E: Editor, R: Rig, S: Source>(
     ensures takes { Takes (S.input input.old).left (S.input input.new).left (most_taken result) }
     ensures goes_on { GoesOn (R.state rig.old) (R.state rig.new) }
     ensures later { (S.input input.old).faults ≤ (S.input input.new).faults }
-    ensures cause { IfErr result (λ stop. HasCauseIn stop (R.state rig.old) (R.state rig.new) (S.input input.old).faults (S.input input.new).faults) }
+    ensures cause { FaultsWith (fault_at stop_device result) (R.state rig.old) (R.state rig.new) (S.input input.old).faults (S.input input.new).faults }
 {
     let mut editor = editor;
     match commands(alloc, &mut editor, rig, input) {
@@ -62,8 +63,12 @@ fn single<E: Editor, R: Rig>(
         MatchResult result (λ _. Stands E.model (OpensWhatever E.model) (R.state rig.new) (said ++ E.model.reply s (command_of command.now)) (E.model.after s (command_of command.now)))
         (λ stop. OneStops E.model (R.state rig.new) s (command_of command.now) said stop) }
     ensures void { OnOk result (ForSome (seen_of (R.state rig.new) File.Journal) E.model.void) }
+    // A command that changes nothing leaves both files alone until its reply is said, and stops for no fault of the image.
+    ensures still { (said : List ℕ) (s : E.model.Document) → Stands E.model (E.stands editor) (R.state rig.old) said s → E.model.still s (command_of command.now) →
+        RepliesOnly R.Rig rig.old rig.new E.model said (E.model.reply s (command_of command.now)) (E.model.after s (command_of command.now)) × (result ≢ Err Stop.Image) }
+    ensures alone { IfErr result StopsAlone }
     ensures goes_on { GoesOn (R.state rig.old) (R.state rig.new) }
-    ensures cause { IfErr result (λ stop. StepCauses stop (R.state rig.old) (R.state rig.new)) }
+    ensures cause { Faults (fault_at stop_device result) (R.state rig.old) (R.state rig.new) }
 {
     let mut editor = editor;
     match step(alloc, &mut editor, rig, command) {
@@ -75,17 +80,17 @@ fn single<E: Editor, R: Rig>(
 /// Opens the files and runs the script.
 fn edit_all<E: Editor, R: Rig, S: Source>(alloc: Global, rig: &mut R, input: &mut S) -> Ended
     ensures moments { (cs : List Cmd) (end : End) (said : List ℕ) (s : E.model.Document) → Begins E.model (S.input input.old).left (R.state rig.old) cs end said s →
-        Nothing R.Rig rig.old rig.new ⊎ From R.Rig rig.old rig.new (OpensToPrefix E.model s cs (last_text end) said) }
+        OnceDurable R.Rig rig.old rig.new (OpensToPrefix E.model s cs (last_text end) said) (end_device result) }
     ensures ends { (cs : List Cmd) (end : End) (said : List ℕ) (s : E.model.Document) → (h : Begins E.model (S.input input.old).left (R.state rig.old) cs end said s) →
         EndsSo E.model (R.state rig.new) (S.input input.new).left s cs end said h.input result }
     ensures void { result ≡ Ended.Done → ForSome (seen_of (R.state rig.new) File.Journal) E.model.void }
     ensures refused { result ≡ Ended.Refused → RefusedSo E.model (R.state rig.old) (R.state rig.new) }
-    ensures kept { KeepsRefused R.Rig rig.old rig.new E.model }
-    ensures refuses { IsUnrefused E.model (R.state rig.old) ⊎ EndsUnopened result }
+    ensures kept { KeepsRefused R.Rig rig.old rig.new E.model (end_device result) }
+    ensures refuses { IsUnrefused E.model (R.state rig.old) ⊎ (EndsUnopened result × RefusedEnds E.model (R.state rig.old) (R.state rig.new) result × (input.new ≡ input.old)) }
     ensures takes { Takes (S.input input.old).left (S.input input.new).left (most_of result) }
     ensures goes_on { GoesOn (R.state rig.old) (R.state rig.new) }
     ensures later { (S.input input.old).faults ≤ (S.input input.new).faults }
-    ensures cause { EndsWithCause result (R.state rig.old) (R.state rig.new) (S.input input.old).faults (S.input input.new).faults }
+    ensures cause { FaultsWith (end_device result) (R.state rig.old) (R.state rig.new) (S.input input.old).faults (S.input input.new).faults }
 {
     match opened::<E, R>(alloc, rig) {
         Ok(editor) => match script(alloc, editor, rig, input) {
@@ -99,15 +104,18 @@ fn edit_all<E: Editor, R: Rig, S: Source>(alloc: Global, rig: &mut R, input: &mu
 /// Opens the files and does one command.
 fn one_alone<E: Editor, R: Rig>(alloc: Global, rig: &mut R, command: &Command) -> Ended
     ensures moments { (said : List ℕ) (s : E.model.Document) → Opening E.model (R.state rig.old) said s →
-        Nothing R.Rig rig.old rig.new ⊎ From R.Rig rig.old rig.new (OpensToPrefix E.model s (command_of command.now ∷ []) [] said) }
+        OnceDurable R.Rig rig.old rig.new (OpensToPrefix E.model s (command_of command.now ∷ []) [] said) (end_device result) }
     ensures ends { (said : List ℕ) (s : E.model.Document) → Opening E.model (R.state rig.old) said s → OneEnds E.model (R.state rig.new) s (command_of command.now) said result }
     ensures void { result ≡ Ended.Done → ForSome (seen_of (R.state rig.new) File.Journal) E.model.void }
     ensures refused { result ≡ Ended.Refused → RefusedSo E.model (R.state rig.old) (R.state rig.new) }
-    ensures kept { KeepsRefused R.Rig rig.old rig.new E.model }
-    ensures refuses { IsUnrefused E.model (R.state rig.old) ⊎ EndsUnopened result }
+    ensures kept { KeepsRefused R.Rig rig.old rig.new E.model (end_device result) }
+    ensures refuses { IsUnrefused E.model (R.state rig.old) ⊎ (EndsUnopened result × RefusedEnds E.model (R.state rig.old) (R.state rig.new) result) }
+    // Where the command changes nothing, both files are left alone from the opening to the reply.
+    ensures reads { (said : List ℕ) (s : E.model.Document) → Opening E.model (R.state rig.old) said s → E.model.still s (command_of command.now) →
+        OpeningEnds (R.state rig.new) said result ⊎ (OnlyReads R.Rig rig.old rig.new E.model said (E.model.reply s (command_of command.now)) s (E.model.after s (command_of command.now)) × (result ≢ Ended.Stopped Stop.Image)) }
     ensures alone { EndsAlone result }
     ensures goes_on { GoesOn (R.state rig.old) (R.state rig.new) }
-    ensures cause { EndsWithCause result (R.state rig.old) (R.state rig.new) 0 0 }
+    ensures cause { Faults (end_device result) (R.state rig.old) (R.state rig.new) }
 {
     match opened::<E, R>(alloc, rig) {
         Ok(editor) => match single(alloc, editor, rig, command) {
@@ -127,18 +135,20 @@ fn one_alone<E: Editor, R: Rig>(alloc: Global, rig: &mut R, command: &Command) -
 pub fn edit<E: Editor, R: Rig, S: Source>(alloc: Global, rig: &mut R, input: &mut S) -> Ended
     // Once opening has made durable what it found, each crash leaves a state that a prefix of the commands gives.
     ensures moments { (cs : List Cmd) (end : End) (said : List ℕ) (s : E.model.Document) → Begins E.model (S.input input.old).left (R.state rig.old) cs end said s →
-        Nothing R.Rig rig.old rig.new ⊎ From R.Rig rig.old rig.new (OpensToPrefix E.model s cs (last_text end) said) }
+        OnceDurable R.Rig rig.old rig.new (OpensToPrefix E.model s cs (last_text end) said) (end_device result) }
     // What stands at the end, what was said, and what was taken of the input.
     ensures ends { (cs : List Cmd) (end : End) (said : List ℕ) (s : E.model.Document) → (h : Begins E.model (S.input input.old).left (R.state rig.old) cs end said s) →
         EndsSo E.model (R.state rig.new) (S.input input.new).left s cs end said h.input result }
     ensures void { result ≡ Ended.Done → ForSome (seen_of (R.state rig.new) File.Journal) E.model.void }
     ensures refused { result ≡ Ended.Refused → RefusedSo E.model (R.state rig.old) (R.state rig.new) }
-    // Files that are refused are kept.
-    ensures kept { KeepsRefused R.Rig rig.old rig.new E.model }
+    // A pair that is refused: nothing is said but the text that says why, or a front of it; nothing is taken; and the files are kept.
+    ensures refusal { RefusedEnds E.model (R.state rig.old) (R.state rig.new) result }
+    ensures untaken { (all : Devices) (text : List ℕ) → devices (R.state rig.old) ≡ Option.Some all → E.model.refuses all.image.seen all.journal.seen text → input.new ≡ input.old }
+    ensures kept { KeepsRefused R.Rig rig.old rig.new E.model (end_device result) }
     ensures takes { Takes (S.input input.old).left (S.input input.new).left (most_of result) }
     ensures goes_on { GoesOn (R.state rig.old) (R.state rig.new) }
     ensures later { (S.input input.old).faults ≤ (S.input input.new).faults }
-    ensures cause { EndsWithCause result (R.state rig.old) (R.state rig.new) (S.input input.old).faults (S.input input.new).faults }
+    ensures cause { FaultsWith (end_device result) (R.state rig.old) (R.state rig.new) (S.input input.old).faults (S.input input.new).faults }
     // Where the script ends well and no fault comes, all is done, or memory is wanting.
     ensures complete { (cs : List Cmd) (said : List ℕ) (s : E.model.Document) → (h : Begins E.model (S.input input.old).left (R.state rig.old) cs End.Done said s) → length h.input ≤ 2 ^ 40 →
         Quiet (R.state rig.old) (R.state rig.new) (S.input input.old).faults (S.input input.new).faults → Answers Ended.Done result }
@@ -152,14 +162,18 @@ pub fn edit<E: Editor, R: Rig, S: Source>(alloc: Global, rig: &mut R, input: &mu
 /// Opens the files, does one command, says its whole reply, and seals the journal.
 pub fn one<E: Editor, R: Rig>(alloc: Global, rig: &mut R, command: &Command) -> Ended
     ensures moments { (said : List ℕ) (s : E.model.Document) → Opening E.model (R.state rig.old) said s →
-        Nothing R.Rig rig.old rig.new ⊎ From R.Rig rig.old rig.new (OpensToPrefix E.model s (command_of command.now ∷ []) [] said) }
+        OnceDurable R.Rig rig.old rig.new (OpensToPrefix E.model s (command_of command.now ∷ []) [] said) (end_device result) }
     ensures ends { (said : List ℕ) (s : E.model.Document) → Opening E.model (R.state rig.old) said s → OneEnds E.model (R.state rig.new) s (command_of command.now) said result }
     ensures void { result ≡ Ended.Done → ForSome (seen_of (R.state rig.new) File.Journal) E.model.void }
     ensures refused { result ≡ Ended.Refused → RefusedSo E.model (R.state rig.old) (R.state rig.new) }
-    ensures kept { KeepsRefused R.Rig rig.old rig.new E.model }
+    ensures refusal { RefusedEnds E.model (R.state rig.old) (R.state rig.new) result }
+    ensures kept { KeepsRefused R.Rig rig.old rig.new E.model (end_device result) }
     ensures goes_on { GoesOn (R.state rig.old) (R.state rig.new) }
-    ensures cause { EndsWithCause result (R.state rig.old) (R.state rig.new) 0 0 }
+    ensures cause { Faults (end_device result) (R.state rig.old) (R.state rig.new) }
     ensures alone { EndsAlone result }
+    // Where the command changes nothing, both files are left alone from the opening to the reply.
+    ensures reads { (said : List ℕ) (s : E.model.Document) → Opening E.model (R.state rig.old) said s → E.model.still s (command_of command.now) →
+        OpeningEnds (R.state rig.new) said result ⊎ (OnlyReads R.Rig rig.old rig.new E.model said (E.model.reply s (command_of command.now)) s (E.model.after s (command_of command.now)) × (result ≢ Ended.Stopped Stop.Image)) }
     ensures complete { (said : List ℕ) (s : E.model.Document) → Opening E.model (R.state rig.old) said s → Quiet (R.state rig.old) (R.state rig.new) 0 0 → Answers Ended.Done result }
     ensures refuses { (all : Devices) (text : List ℕ) → devices (R.state rig.old) ≡ Option.Some all → E.model.refuses all.image.seen all.journal.seen text →
         Quiet (R.state rig.old) (R.state rig.new) 0 0 → Answers Ended.Refused result }

@@ -20,6 +20,7 @@ counting = record {
   void = λ journal. Unit {0};
   after = λ s c. s + 1;
   reply = λ s c. ok_line;
+  still = λ s c. ⊥;
 }
 
 -- the image is at rest, and has so many bytes

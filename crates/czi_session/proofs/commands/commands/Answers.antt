@@ -1,8 +1,10 @@
-use Rattle.std.proofs.Common.{arith, ap, Ok}
+use Rattle.std.proofs.Common.{arith, ap, refl, ◌∙◌, Ok}
 use Rattle.std.proofs.lemmas.Result.{err_from_is_err_and}
+use Rattle.czi_rig.proofs.Faults.{no_faults}
 use Rattle.czi_rig.proofs.Known.{goes_then}
 use Rattle.czi_rig.proofs.Runs.{started}
 use Rattle.czi_session.proofs.Midway.{midway_begins, midway_next, moments_next, reader_stops, step_stops, whole, taken_first, sound_first, taken_on, takes_any, takes_stopped}
+use Rattle.czi_session.proofs.Stops.{read_then, stopped_then, with_then}
 use Rattle.czi_session.proofs.commands.commands.Goals as goal
 
 pub loop-command-init : goal.loop-command-init
@@ -15,6 +17,7 @@ loop-command-init g c = record {
   ready = c.requires.ready;
   goes_on = search arith;
   later = omega arith;
+  no_fault = record { rig = no_faults _; input_count = refl };
 }
 
 pub loop-command-preserved-in_ok-step-in-Ok-Some : goal.loop-command-preserved-in_ok-step-in-Ok-Some
@@ -36,6 +39,7 @@ loop-command-preserved-in_ok-step-in-Ok-Some g c =
       ready = c.in_ok-step-in-Ok-Some.ensures.ready;
       goes_on = goes_then _ _ _ inv.goes_on c.step.ensures.goes_on;
       later = omega (arith, inv.later, c.next.ensures.later);
+      no_fault = with_then _ _ _ _ _ _ _ inv.no_fault (record { rig = c.in_ok-step-in-Ok-Some.ensures.cause; input_count = c.in-Ok-Some.ensures.cause inv.none });
     }
 
 pub loop-command-preserved : goal.loop-command-preserved
@@ -57,6 +61,7 @@ loop-command-preserved g c =
       ready = c.in_ok-step-in-Ok-Some.ensures.ready;
       goes_on = goes_then _ _ _ inv.goes_on c.step.ensures.goes_on;
       later = omega (arith, inv.later, c.next.ensures.later);
+      no_fault = with_then _ _ _ _ _ _ _ inv.no_fault (record { rig = c.in_ok-step-in-Ok-Some.ensures.cause; input_count = c.in-Ok-Some.ensures.cause inv.none });
     }
 
 pub returns-in_err-step-in-Ok-Some-clause-moments : goal.returns-in_err-step-in-Ok-Some-clause-moments
@@ -84,6 +89,21 @@ pub returns-in_err-step-in-Ok-Some-clause-takes : goal.returns-in_err-step-in-Ok
 returns-in_err-step-in-Ok-Some-clause-takes g c =
     let inv = c.loop-command.invariant in
     takes_any _ _ c.next.new.self c.next.ensures.sound (taken_on _ (g.S.Source.input c.loop-command.input).left _ c.loop-command.reader c.next.new.self inv.taken (c.in-Ok-Some.ensures.takes inv.none)) c.from_residual.result
+
+pub returns-in_err-step-in-Ok-Some-clause-cause : goal.returns-in_err-step-in-Ok-Some-clause-cause
+returns-in_err-step-in-Ok-Some-clause-cause g c =
+    let p = err_from_is_err_and c.from_residual.result c.from_residual.ensures.1 in
+    rw (p.1, p.2) (stopped_then _ _ _ _ _ _ _ c.loop-command.invariant.no_fault (c.in-Ok-Some.ensures.cause c.loop-command.invariant.none) c.in_err-step-in-Ok-Some.ensures.alone c.in_err-step-in-Ok-Some.ensures.cause)
+
+pub returns-in-Ok-None-clause-cause : goal.returns-in-Ok-None-clause-cause
+returns-in-Ok-None-clause-cause g c =
+    let inv = c.loop-command.invariant in
+    record { rig = inv.no_fault.rig; input_count = c.in-Ok-None.ensures.cause inv.none ∙ inv.no_fault.input_count }
+
+pub returns-in-Err-clause-cause : goal.returns-in-Err-clause-cause
+returns-in-Err-clause-cause g c =
+    let inv = c.loop-command.invariant in
+    rw c.stop_by.ensures (read_then c.in-Err.error _ _ _ _ _ inv.no_fault (c.in-Err.ensures.cause inv.none))
 
 pub returns-in-Ok-None-clause-ends : goal.returns-in-Ok-None-clause-ends
 returns-in-Ok-None-clause-ends g c = λ cs end said s h.

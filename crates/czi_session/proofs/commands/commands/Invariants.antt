@@ -3,6 +3,7 @@ use Rattle.czi_script.specs.Script.{Command as Cmd, End}
 use Rattle.czi_script.specs.Reader.{IsReader}
 use Rattle.czi_session.specs.Course.{Starts, OpensToPrefix}
 use Rattle.czi_session.proofs.Midway.{Midway, TakenSoFar}
+use Rattle.czi_rig.specs.Faults.{FaultsWith}
 use Rattle.czi_rig.specs.Passes.{GoesOn}
 use Rattle.czi_rig.specs.Moments.{Throughout}
 use Rattle.czi_session.proofs.commands.commands.Given as goal
@@ -19,6 +20,7 @@ invariant-loop-command g l = record {
   ready : g.E.Editor.ready l.editor (g.R.Rig.state l.rig);
   goes_on : GoesOn (g.R.Rig.state l.initial.rig) (g.R.Rig.state l.rig);
   later : (g.S.Source.input l.initial.input).faults ≤ (g.S.Source.input l.input).faults;
+  no_fault : FaultsWith None (g.R.Rig.state l.initial.rig) (g.R.Rig.state l.rig) (g.S.Source.input l.initial.input).faults (g.S.Source.input l.input).faults;
 }
 
 abbrev pub decreases-loop-command : goal.decreases-loop-command

@@ -1,8 +1,39 @@
-use Rattle.std.proofs.Common.{inl, ◌∙◌, ap, take, List, ◌++◌, ℕ, length}
+use Rattle.std.proofs.Common.{inl, ◌∙◌, ap, take, List, ◌++◌, ℕ, length, Result, Err}
 use Rattle.czi_rig.proofs.Runs.{weaker}
 use Rattle.czi_script.specs.View.{command_of}
-use Rattle.czi_session.proofs.Spoken.{step_says, said_stands, stands_open}
+use Rattle.czi_session.specs.declared.stop.EditorStop.{EditorStop}
+use Rattle.czi_session.proofs.Spoken.{nothing_said, perform_stops, said_stands, stands_open, step_says, text_said}
+use Rattle.czi_session.proofs.Stops.{editor_alone, no_file}
 use Rattle.czi_session.proofs.steps.step.Goals as goal
+
+pub returns-clause-stops : goal.returns-clause-stops
+returns-clause-stops g c = λ said s h.
+    rw c.stop_of.ensures (perform_stops g.E.Editor.model (g.E.Editor.stands c.args.editor.now) (g.met.E.Editor.opens_now c.args.editor.now) (g.R.Rig.state c.args.rig.now) (g.R.Rig.state c.perform.new.rig) said s (command_of c.args.command.now) c.in-Err.stop h c.perform.ensures.said
+    (λ is. ap g.R.Rig.state (c.in-Err.ensures.starved (ap (λ (e : EditorStop). let r : Result (Unit {0}) EditorStop = Err e in r) is))))
+
+pub returns-clause-still : goal.returns-clause-still
+returns-clause-still g c = λ said s h still.
+    let none = c.in-Err.ensures.still said s h still in
+    rw c.stop_of.ensures (nothing_said g.R.Rig c.args.rig.now c.perform.new.rig (g.E.Editor.model.reply s (command_of c.args.command.now)) none.1, no_file _ none.0)
+
+pub returns-clause-alone : goal.returns-clause-alone
+returns-clause-alone g c = rw c.stop_of.ensures (editor_alone c.in-Err.stop)
+
+pub returns-in-Ok-say-clause-still : goal.returns-in-Ok-say-clause-still
+returns-in-Ok-say-clause-still g c = λ said s h still.
+    let done = c.in-Ok.ensures.ok said s h in (
+      text_said g.R.Rig c.args.rig.now c.perform.new.rig c.say.new.self _ _ (c.in-Ok.ensures.still said s h still).1
+          (c.deref.ensures.value ∙ done.0 ∙ ap (λ (x : List ℕ). x ++ g.E.Editor.model.reply s (command_of c.args.command.now)) c.new-reply.ensures.items) c.say.ensures.files c.say.ensures.time,
+      λ file. file,
+    )
+
+pub returns-in-Ok-clause-still : goal.returns-in-Ok-clause-still
+returns-in-Ok-clause-still g c = λ said s h still.
+    let done = c.in-Ok.ensures.ok said s h in (
+      text_said g.R.Rig c.args.rig.now c.perform.new.rig c.say.new.self _ _ (c.in-Ok.ensures.still said s h still).1
+          (c.deref.ensures.value ∙ done.0 ∙ ap (λ (x : List ℕ). x ++ g.E.Editor.model.reply s (command_of c.args.command.now)) c.new-reply.ensures.items) c.say.ensures.files c.say.ensures.time,
+      λ file. file,
+    )
 
 pub returns-clause-moments : goal.returns-clause-moments
 returns-clause-moments g c = λ said s h. weaker g.R.Rig (λ i j o p. inl p) (c.perform.ensures.moments said s h)

@@ -1,3 +1,4 @@
+use Rattle.std.proofs.Common.{inl, inr, ⊎_elim}
 use Rattle.czi_script.specs.Script.{Done}
 use Rattle.czi_session.proofs.Ending.{answers}
 use Rattle.czi_session.proofs.Refusing.{refused_answers}
@@ -11,4 +12,10 @@ returns-clause-complete g c = λ cs said s h few q.
 pub returns-clause-refuses : goal.returns-clause-refuses
 returns-clause-refuses g c = λ all text is refuses q.
     let e = c.edit_all.ensures in
-    refused_answers g.E.Editor.model c.edit_all.result _ _ _ _ all text is refuses e.refuses q e.cause
+    refused_answers g.E.Editor.model c.edit_all.result _ _ _ _ all text is refuses (⊎_elim (λ un. inl un) (λ ends. inr ends.0) e.refuses) q e.cause.rig
+
+pub returns-clause-refusal : goal.returns-clause-refusal
+returns-clause-refusal g c = λ all text is refuses. ⊎_elim (λ un. absurd (un all text is refuses)) (λ ends. ends.1 all text is refuses) c.edit_all.ensures.refuses
+
+pub returns-clause-untaken : goal.returns-clause-untaken
+returns-clause-untaken g c = λ all text is refuses. ⊎_elim (λ un. absurd (un all text is refuses)) (λ ends. ends.2) c.edit_all.ensures.refuses

@@ -1,7 +1,8 @@
-use Rattle.std.proofs.Common.{inl, inr, ⊎_elim}
+use Rattle.std.proofs.Common.{inl, inr, refl}
 use Rattle.czi_session.specs.Text.{last_text}
 use Rattle.czi_session.proofs.Ending.{open_prefix, from_weaker, from_more, starts, unopened}
-use Rattle.czi_session.proofs.Refusing.{unopened_alone}
+use Rattle.czi_session.proofs.Kept.{once_weaker}
+use Rattle.czi_session.proofs.Stops.{unopened_with, with_then}
 use Rattle.czi_session.proofs.top.edit_all.Goals as goal
 
 pub returns-in-Err-script-clause-moments : goal.returns-in-Err-script-clause-moments
@@ -33,7 +34,7 @@ returns-in-Err-script-clause-ends g c = λ cs end said s h.
 pub returns-in-Err-clause-moments : goal.returns-in-Err-clause-moments
 returns-in-Err-clause-moments g c = λ cs end said s h.
     let m = g.E.Editor.model in
-    ⊎_elim (λ nothing. inl nothing) (λ from. inr (from_weaker g.R.Rig (open_prefix m g.met.E.Editor.says_something s cs (last_text end) said) from)) (c.in-Err.ensures.opens said s h.opening).1
+    once_weaker g.R.Rig _ (open_prefix m g.met.E.Editor.says_something s cs (last_text end) said) (c.in-Err.ensures.opens said s h.opening).1
 
 pub returns-in-Err-clause-ends : goal.returns-in-Err-clause-ends
 returns-in-Err-clause-ends g c = λ cs end said s h.
@@ -46,4 +47,19 @@ pub returns-in-Ok-script-clause-refuses : goal.returns-in-Ok-script-clause-refus
 returns-in-Ok-script-clause-refuses g c = inl c.in-Ok.ensures.unrefused
 
 pub returns-in-Err-clause-refuses : goal.returns-in-Err-clause-refuses
-returns-in-Err-clause-refuses g c = inr (unopened_alone c.in-Err.ended _ _ c.in-Err.ensures.cause)
+returns-in-Err-clause-refuses g c = inr (c.in-Err.ensures.unopened, c.in-Err.ensures.refusal, refl)
+
+pub returns-in-Err-script-clause-kept : goal.returns-in-Err-script-clause-kept
+returns-in-Err-script-clause-kept g c = λ all text known refused. absurd (c.in-Ok.ensures.unrefused all text known refused)
+
+pub returns-in-Ok-script-clause-kept : goal.returns-in-Ok-script-clause-kept
+returns-in-Ok-script-clause-kept g c = λ all text known refused. absurd (c.in-Ok.ensures.unrefused all text known refused)
+
+pub returns-in-Err-script-clause-cause : goal.returns-in-Err-script-clause-cause
+returns-in-Err-script-clause-cause g c = with_then _ _ _ _ _ _ _ (record { rig = c.in-Ok.ensures.cause; input_count = refl }) c.in-Err-script.ensures.cause
+
+pub returns-in-Ok-script-clause-cause : goal.returns-in-Ok-script-clause-cause
+returns-in-Ok-script-clause-cause g c = with_then _ _ _ _ _ _ _ (record { rig = c.in-Ok.ensures.cause; input_count = refl }) c.in-Ok-script.ensures.cause
+
+pub returns-in-Err-clause-cause : goal.returns-in-Err-clause-cause
+returns-in-Err-clause-cause g c = unopened_with c.in-Err.ended _ _ _ c.in-Err.ensures.unopened c.in-Err.ensures.cause

@@ -1,8 +1,9 @@
 use Rattle.std.proofs.Common.{refl, Err}
 use Rattle.czi_rig.proofs.Runs.{joined, weaker}
 use Rattle.czi_session.specs.Text.{last_text}
-use Rattle.czi_session.proofs.Ending.{prefix_sealed, prefix_fault, stopped, fault_said, sealed, sealed_cause, text_cause}
+use Rattle.czi_session.proofs.Ending.{prefix_sealed, prefix_fault, stopped, fault_said, sealed}
 use Rattle.czi_session.proofs.Midway.{takes_more, most_any}
+use Rattle.czi_session.proofs.Stops.{said_then, sealed_then}
 use Rattle.czi_session.proofs.top.script.Goals as goal
 
 pub returns-in-Ok-clause-moments : goal.returns-in-Ok-clause-moments
@@ -16,13 +17,13 @@ pub returns-in-Ok-clause-ends : goal.returns-in-Ok-clause-ends
 returns-in-Ok-clause-ends g c = λ cs end said s h.
     let m = g.E.Editor.model in
     let w = c.in-Ok.ensures.ends cs end said s h in
-    sealed m (g.R.Rig.state c.sealed.new.rig) (g.S.Source.input c.commands.new.input).left s cs end said h.input c.sealed.result (g.R.Rig.state c.commands.new.rig) _ _ w refl c.sealed.ensures.said c.sealed.ensures.ok c.sealed.ensures.cause
+    sealed m (g.R.Rig.state c.sealed.new.rig) (g.S.Source.input c.commands.new.input).left s cs end said h.input c.sealed.result (g.R.Rig.state c.commands.new.rig) _ _ w refl c.sealed.ensures.said c.sealed.ensures.ok c.sealed.ensures.only
 
 pub returns-in-Ok-clause-takes : goal.returns-in-Ok-clause-takes
 returns-in-Ok-clause-takes g c = takes_more _ _ _ _ (most_any c.sealed.result) c.in-Ok.ensures.takes
 
 pub returns-in-Ok-clause-cause : goal.returns-in-Ok-clause-cause
-returns-in-Ok-clause-cause g c = sealed_cause c.sealed.result (g.R.Rig.state c.args.rig.now) (g.R.Rig.state c.commands.new.rig) (g.R.Rig.state c.sealed.new.rig) _ _ c.commands.ensures.goes_on.journal_faults c.sealed.ensures.cause
+returns-in-Ok-clause-cause g c = sealed_then c.sealed.result _ _ _ _ _ c.in-Ok.ensures.cause c.sealed.ensures.only c.sealed.ensures.cause
 
 pub returns-in-Script-clause-moments : goal.returns-in-Script-clause-moments
 returns-in-Script-clause-moments g c = λ cs end said s h.
@@ -41,7 +42,7 @@ pub returns-in-Script-clause-takes : goal.returns-in-Script-clause-takes
 returns-in-Script-clause-takes g c = takes_more _ _ _ _ (most_any (Err c.say_fault.result)) (rw c.in-Script.is at c.in-Err.ensures.takes)
 
 pub returns-in-Script-clause-cause : goal.returns-in-Script-clause-cause
-returns-in-Script-clause-cause g c = text_cause c.say_fault.result _ _ (g.R.Rig.state c.args.rig.now) (g.R.Rig.state c.commands.new.rig) (g.R.Rig.state c.say_fault.new.rig) _ _ c.commands.ensures.goes_on.output_faults c.say_fault.ensures.cause
+returns-in-Script-clause-cause g c = said_then c.say_fault.result _ _ _ _ _ _ _ (rw c.in-Script.is at c.in-Err.ensures.cause) c.say_fault.ensures.only c.say_fault.ensures.cause
 
 pub returns : goal.returns
 returns g c =

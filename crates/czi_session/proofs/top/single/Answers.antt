@@ -1,7 +1,9 @@
 use Rattle.std.proofs.Common.{inl}
-use Rattle.czi_rig.proofs.Runs.{joined, weaker}
+use Rattle.czi_rig.proofs.Faults.{faults_then}
+use Rattle.czi_rig.proofs.Runs.{joined, started, weaker}
 use Rattle.czi_script.specs.View.{command_of}
-use Rattle.czi_session.proofs.Ending.{one_within, one_sealed, one_ends, one_cause}
+use Rattle.czi_session.proofs.Ending.{one_within, one_sealed, one_ends}
+use Rattle.czi_session.proofs.Stops.{image_is_file, sealed_alone, sealed_no_image}
 use Rattle.czi_session.proofs.top.single.Goals as goal
 
 pub returns-in-Ok-clause-moments : goal.returns-in-Ok-clause-moments
@@ -13,10 +15,24 @@ returns-in-Ok-clause-moments g c = λ said s h.
 
 pub returns-in-Ok-clause-ends : goal.returns-in-Ok-clause-ends
 returns-in-Ok-clause-ends g c = λ said s h.
-    one_ends g.E.Editor.model (g.R.Rig.state c.sealed.new.rig) s (command_of c.args.command.now) said c.sealed.result (g.R.Rig.state c.step.new.rig) _ (c.in-Ok.ensures.ok said s h) c.sealed.ensures.said c.sealed.ensures.ok c.sealed.ensures.cause
+    one_ends g.E.Editor.model (g.R.Rig.state c.sealed.new.rig) s (command_of c.args.command.now) said c.sealed.result (g.R.Rig.state c.step.new.rig) _ (c.in-Ok.ensures.ok said s h) c.sealed.ensures.said c.sealed.ensures.ok c.sealed.ensures.only
+
+pub returns-in-Ok-clause-still : goal.returns-in-Ok-clause-still
+returns-in-Ok-clause-still g c = λ said s h still. (
+  record { replied = c.step.new.rig; replying = (c.in-Ok.ensures.still said s h still).0; sealing = c.sealed.ensures.moments _ _ (c.in-Ok.ensures.ok said s h) },
+  sealed_no_image c.sealed.result c.sealed.ensures.only,
+)
+
+pub returns-in-Ok-clause-alone : goal.returns-in-Ok-clause-alone
+returns-in-Ok-clause-alone g c = sealed_alone c.sealed.result c.sealed.ensures.only
 
 pub returns-in-Ok-clause-cause : goal.returns-in-Ok-clause-cause
-returns-in-Ok-clause-cause g c = one_cause c.sealed.result (g.R.Rig.state c.args.rig.now) (g.R.Rig.state c.step.new.rig) (g.R.Rig.state c.sealed.new.rig) c.step.ensures.goes_on.journal_faults c.sealed.ensures.cause
+returns-in-Ok-clause-cause g c = faults_then _ _ _ _ c.in-Ok.ensures.cause c.sealed.ensures.cause
+
+pub returns-in-Err-clause-still : goal.returns-in-Err-clause-still
+returns-in-Err-clause-still g c = λ said s h still.
+    let so = c.in-Err.ensures.still said s h still in
+    (record { replied = c.step.new.rig; replying = so.0; sealing = started g.R.Rig c.step.new.rig _ }, image_is_file c.in-Err.stop so.1)
 
 pub returns-in-Err-clause-moments : goal.returns-in-Err-clause-moments
 returns-in-Err-clause-moments g c = λ said s h.
