@@ -1,7 +1,6 @@
 use crate::edits::edited;
 use czi_att::{read_a1, read_guid, write_a1, write_guid};
 use czi_doc::AttInfo;
-use std::test::Fail;
 
 /// 00112233-4455-6677-8899-aabbccddeeff as it is stored.
 static GUID: [u8; 16] = [
@@ -17,23 +16,32 @@ static ENTRY: [u8; 128] = [
     0, 0, 0, 0, 0, 0, 0, 0, 0, 0, 0, 0, 0, 0, 0, 0, 0, 0, 0, 0, 0, 0, 0, 0, 0, 0, 0, 0, 0, 0, 0, 0,
 ];
 
+/// What it says.
+static INFO: AttInfo = AttInfo {
+    guid: [
+        0x33, 0x22, 0x11, 0x00, 0x55, 0x44, 0x77, 0x66, 0x88, 0x99, 0xAA, 0xBB, 0xCC, 0xDD, 0xEE,
+        0xFF,
+    ],
+    kind: *b"TXT\0\0\0\0\0",
+    name: [
+        b'E', b'v', b'e', b'n', b't', b'L', b'i', b's', b't', 0, 0, 0, 0, 0, 0, 0, 0, 0, 0, 0, 0,
+        0, 0, 0, 0, 0, 0, 0, 0, 0, 0, 0, 0, 0, 0, 0, 0, 0, 0, 0, 0, 0, 0, 0, 0, 0, 0, 0, 0, 0, 0,
+        0, 0, 0, 0, 0, 0, 0, 0, 0, 0, 0, 0, 0, 0, 0, 0, 0, 0, 0, 0, 0, 0, 0, 0, 0, 0, 0, 0, 0,
+    ],
+};
+
 #[test]
-fn an_entry_is_read_and_written(rt: HostRuntime) -> Result<(), Fail> {
-    let (info, position) = read_a1(&ENTRY).ok_or("no entry")?;
-    assert!(rt; position == 704 && info.guid == GUID && info.kind == *b"TXT\0\0\0\0\0");
-    let (name, behind) = info.name.split_at(9);
-    assert!(rt; name == b"EventList".as_slice());
-    assert!(rt; behind.iter().all(|b| *b == 0));
-    assert!(rt; write_a1(&info, 704) == ENTRY);
-    Ok(())
+fn an_entry_is_read_and_written(rt: HostRuntime) {
+    assert!(rt; read_a1(&ENTRY) == Some((INFO, 704)));
+    assert!(rt; write_a1(&INFO, 704) == ENTRY);
 }
 
 #[test]
 fn spare_bytes_of_an_entry_are_not_looked_at(rt: HostRuntime) {
-    let read = read_a1(&ENTRY);
-    assert!(rt; read.is_some());
-    assert!(rt; read_a1(&edited(&rt, &ENTRY, &[(2, 7), (20, 1)])) == read);
-    assert!(rt; read_a1(&edited(&rt, &ENTRY, &[(2, 7), (20, 1), (1, b'2')])).is_none());
+    let spare = edited(&rt, &ENTRY, &[(2, 7), (20, 1)]);
+    assert!(rt; read_a1(&spare) == Some((INFO, 704)));
+    let other = edited(&rt, &spare, &[(1, b'2')]);
+    assert!(rt; read_a1(&other).is_none());
 }
 
 #[test]

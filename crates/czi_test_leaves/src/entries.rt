@@ -42,11 +42,14 @@ static RECORDS: [Dim; 3] = [
 fn an_entry_is_read(rt: HostRuntime) -> Result<(), Fail> {
     let (entry, len) = read_entry(rt.alloc(), &TILE).ok().ok_or("refused")?;
     assert!(rt; len == 92 && entry.position == 704);
-    let info = &entry.info;
+    check_tile(&rt, &entry.info);
+    Ok(())
+}
+
+fn check_tile(rt: &impl Abort, info: &EntryInfo) {
     assert!(rt; info.pixel == 0 && info.compression == 0 && info.pyramid == 2);
     assert!(rt; info.spare == [9, 8, 7, 6, 5]);
     assert!(rt; info.dims.list() == RECORDS.as_slice());
-    Ok(())
 }
 
 /// What is refused: the changes to the entry above, how many bytes there are, and the first rule that fails.
@@ -103,19 +106,24 @@ fn forty_records_are_read(rt: HostRuntime) -> Result<(), Fail> {
 
 #[test]
 fn an_entry_is_written(rt: HostRuntime) -> Result<(), Fail> {
-    let dims = Dims::new(RECORDS.to_vec(rt.alloc())?).map_err(|_| "refused")?;
-    let info = EntryInfo {
-        pixel: 0,
-        compression: 0,
-        pyramid: 2,
-        spare: [9, 8, 7, 6, 5],
-        dims,
-    };
+    let info = tile(rt.alloc())?;
     assert!(rt; entry_len(&info) == 92);
     let mut out = [0xAAu8; 92];
     write_entry(&info, 704, &mut out);
     assert!(rt; out == TILE);
     Ok(())
+}
+
+/// What the entry above says.
+fn tile(alloc: Global) -> Result<EntryInfo, Fail> {
+    let dims = Dims::new(RECORDS.to_vec(alloc)?).map_err(|_| "refused")?;
+    Ok(EntryInfo {
+        pixel: 0,
+        compression: 0,
+        pyramid: 2,
+        spare: [9, 8, 7, 6, 5],
+        dims,
+    })
 }
 
 #[test]

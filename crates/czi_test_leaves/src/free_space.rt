@@ -1,14 +1,35 @@
+ghost use Rattle.std.specs.Prelude.{[], ◌∷◌, ◌≤◌, IfOk, OnOk};
+ghost use Rattle.czi_num.specs.Span.{span_of};
+ghost use Rattle.czi_space.specs.State.{AreExtents, Has};
+
 use czi_num::Span;
 use czi_space::{Map, Place};
+use std::alloc::{AllocError, Global};
+use std::process::Abort;
 use std::test::Fail;
+
+/// A map of one extent, with spare memory for four more.
+fn map_of(alloc: Global, extent: Span, length: u64) -> Result<Map, AllocError>
+    requires { AreExtents 0 length (span_of extent ∷ []) }
+    ensures map { IfOk result (λ m. Has m (span_of extent ∷ []) [] length) }
+    ensures spare { IfOk result (λ m. 4 ≤ m.spare) }
+{
+    let mut map = Map::of_runs(alloc, vec![in alloc; extent]?, length);
+    map.reserve(4)?;
+    Ok(map)
+}
+
+fn check_runs(rt: &impl Abort, map: &Map, wanted: &[Span]) -> Result<(), AllocError> {
+    let runs = map.runs()?;
+    assert!(rt; runs.as_slice() == wanted);
+    Ok(())
+}
 
 #[test]
 fn runs_and_places(rt: HostRuntime) -> Result<(), Fail> {
-    let extents = vec![in rt.alloc(); Span { at: 544, len: 160 }]?;
-    let mut map = Map::of_runs(rt.alloc(), extents, 704);
-    map.reserve(4)?;
-    let runs = map.runs()?;
-    assert!(rt; runs.as_slice() == [Span { at: 544, len: 160 }].as_slice());
+    let extent = Span { at: 544, len: 160 };
+    let map = map_of(rt.alloc(), extent, 704)?;
+    check_runs(&rt, &map, &[extent])?;
     assert!(rt; map.length() == 704);
     assert!(rt; map.first_fit(160) == Place::At(544));
     assert!(rt; map.first_fit(192) == Place::At(704));
@@ -17,8 +38,7 @@ fn runs_and_places(rt: HostRuntime) -> Result<(), Fail> {
 
 #[test]
 fn places_beside_taken_spans(rt: HostRuntime) -> Result<(), Fail> {
-    let extents = vec![in rt.alloc(); Span { at: 544, len: 160 }]?;
-    let map = Map::of_runs(rt.alloc(), extents, 704);
+    let map = map_of(rt.alloc(), Span { at: 544, len: 160 }, 704)?;
     let taken = [Span { at: 544, len: 128 }, Span { at: 704, len: 320 }];
     assert!(rt; map.first_fit_after(64, &taken) == Place::At(1024));
     assert!(rt; map.first_fit_after(32, &taken) == Place::At(672));
@@ -38,16 +58,16 @@ fn places_at_the_limit(rt: HostRuntime) {
 
 #[test]
 fn held_and_released(rt: HostRuntime) -> Result<(), Fail> {
-    let extents = vec![in rt.alloc(); Span { at: 544, len: 736 }]?;
-    let mut map = Map::of_runs(rt.alloc(), extents, 1600);
-    map.reserve(4)?;
+    let mut map = map_of(rt.alloc(), Span { at: 544, len: 736 }, 1600)?;
     let old = Span { at: 704, len: 320 };
     map.hold(&old);
     assert!(rt; map.held() == [old].as_slice());
-    let runs = map.runs()?;
-    let parts = [Span { at: 544, len: 160 }, Span { at: 1024, len: 256 }];
-    assert!(rt; runs.as_slice() == parts.as_slice());
     assert!(rt; map.first_fit(256) == Place::At(1024));
+    check_runs(
+        &rt,
+        &map,
+        &[Span { at: 544, len: 160 }, Span { at: 1024, len: 256 }],
+    )?;
     map.unhold(&old);
     assert!(rt; map.held().is_empty());
     Ok(())
@@ -56,8 +76,7 @@ fn held_and_released(rt: HostRuntime) -> Result<(), Fail> {
 #[test]
 fn taken_freed_and_cut(rt: HostRuntime) -> Result<(), Fail> {
     let whole = Span { at: 544, len: 736 };
-    let mut map = Map::of_runs(rt.alloc(), vec![in rt.alloc(); whole]?, 1280);
-    map.reserve(4)?;
+    let mut map = map_of(rt.alloc(), whole, 1280)?;
     let old = Span { at: 704, len: 320 };
     map.take(&old);
     let parts = [Span { at: 544, len: 160 }, Span { at: 1024, len: 256 }];

@@ -6,23 +6,47 @@ use std::alloc::{AllocError, Global};
 use std::process::Abort;
 use std::test::Fail;
 
-const fn dim(name: [u8; 4], start: i32, size: i32, stored: i32) -> Dim {
+/// A record: its name, its start, and its size in pixels and as stored.
+type Record = ([u8; 4], i32, i32, i32);
+
+static TILE: [Record; 3] = [
+    (*b"C\0\0\0", 0, 1, 1),
+    (*b"X\0\0\0", 0, 4, 4),
+    (*b"Y\0\0\0", 0, 2, 0),
+];
+
+/// Records with the same key.
+static OTHER: [Record; 3] = [
+    (*b"Y\0\0\0", 0, 2, 2),
+    (*b"C\0\0\0", 0, 9, 3),
+    (*b"X\0\0\0", 0, 4, 0),
+];
+
+/// Records with a lower one.
+static NARROW: [Record; 3] = [
+    (*b"C\0\0\0", 0, 1, 1),
+    (*b"X\0\0\0", 0, 4, 4),
+    (*b"Y\0\0\0", 0, 1, 0),
+];
+
+fn dim(record: &Record) -> Dim {
     Dim {
-        name,
-        start,
-        size,
+        name: record.0,
+        start: record.1,
+        size: record.2,
         coord: [0; 4],
-        stored,
+        stored: record.3,
     }
 }
 
-fn tile(alloc: Global) -> Result<Dims, Fail> {
-    let list = vec![in alloc;
-        dim(*b"C\0\0\0", 0, 1, 1),
-        dim(*b"X\0\0\0", 0, 4, 4),
-        dim(*b"Y\0\0\0", 0, 2, 0),
-    ]?;
+fn dims(alloc: Global, records: &[Record]) -> Result<Dims, Fail> {
+    let list = records.iter().map(dim).collect(alloc)?;
     Ok(Dims::new(list).map_err(|_| "refused")?)
+}
+
+fn key(alloc: Global, records: &[Record]) -> Result<Key, Fail> {
+    let dims = dims(alloc, records)?;
+    Ok(Key::of(alloc, &dims)?)
 }
 
 #[test]
@@ -36,31 +60,49 @@ fn lists_of_one_to_forty(rt: HostRuntime) -> Result<(), Fail> {
 
 /// How long a list is that is made of so many records, or why none is made.
 fn length_of_list(alloc: Global, records: usize) -> Result<Result<usize, ItemFault>, AllocError> {
-    let list = vec![in alloc; dim(*b"C\0\0\0", 0, 1, 1); records]?;
+    let list = vec![in alloc; dim(&TILE[0]); records]?;
     Ok(Dims::new(list).map(|dims| dims.list().len()))
 }
 
 #[test]
 fn sizes_as_stored(rt: HostRuntime) {
-    assert!(rt; dim(*b"C\0\0\0", 0, 1, 1).stored_size() == 1);
-    assert!(rt; dim(*b"X\0\0\0", 0, 7, 0).stored_size() == 7);
+    assert!(rt; dim(&(*b"C\0\0\0", 0, 1, 1)).stored_size() == 1);
+    assert!(rt; dim(&(*b"X\0\0\0", 0, 7, 0)).stored_size() == 7);
 }
+
+/// Records, each list with what is written of it.
+static WRITTEN: [(&[Record], &str); 2] = [
+    (
+        &[
+            (*b"C\0\0\0", 0, 1, 1),
+            (*b"X\0\0\0", 0, 4, 4),
+            (*b"Y\0\0\0", 0, 2, 0),
+        ],
+        "=C0:1:1,X0:4:4,Y0:2:2",
+    ),
+    (
+        &[([b'%', 0x1F, 0xAB, b'~'], -2147483648, 2147483647, -1)],
+        "=%25%1f%ab~-2147483648:2147483647:-1",
+    ),
+];
 
 #[test]
 fn written_text(rt: HostRuntime) -> Result<(), Fail> {
-    let mut text = vec![in rt.alloc(); b'=']?;
-    write_dims(&tile(rt.alloc())?, &mut text)?;
-    assert!(rt; text.as_slice() == b"=C0:1:1,X0:4:4,Y0:2:2".as_slice());
+    for (records, text) in WRITTEN.iter() {
+        check_written(&rt, rt.alloc(), records, text)?;
+    }
     Ok(())
 }
 
-#[test]
-fn written_text_of_foreign_bytes(rt: HostRuntime) -> Result<(), Fail> {
-    let foreign = vec![in rt.alloc(); dim([b'%', 0x1F, 0xAB, b'~'], -2147483648, 2147483647, -1)]?;
-    let dims = Dims::new(foreign).map_err(|_| "refused")?;
-    let mut text = Vec::new(rt.alloc());
-    write_dims(&dims, &mut text)?;
-    assert!(rt; text.as_slice() == b"%25%1f%ab~-2147483648:2147483647:-1".as_slice());
+fn check_written(
+    rt: &impl Abort,
+    alloc: Global,
+    records: &[Record],
+    text: &str,
+) -> Result<(), Fail> {
+    let mut out = vec![in alloc; b'=']?;
+    write_dims(&dims(alloc, records)?, &mut out)?;
+    assert!(rt; out.as_slice() == text.as_bytes());
     Ok(())
 }
 
@@ -72,34 +114,19 @@ fn written_name(rt: HostRuntime) -> Result<(), Fail> {
     Ok(())
 }
 
-/// The key of these dimensions.
-fn key(alloc: Global, list: Vec<Dim>) -> Result<Key, Fail> {
-    let dims = Dims::new(list).map_err(|_| "refused")?;
-    Ok(Key::of(alloc, &dims)?)
-}
-
 #[test]
 fn keys(rt: HostRuntime) -> Result<(), Fail> {
-    let a = Key::of(rt.alloc(), &tile(rt.alloc())?)?;
-    let other = vec![in rt.alloc();
-        dim(*b"Y\0\0\0", 0, 2, 2),
-        dim(*b"C\0\0\0", 0, 9, 3),
-        dim(*b"X\0\0\0", 0, 4, 0),
-    ]?;
-    assert!(rt; a == key(rt.alloc(), other)?);
-    let narrow = vec![in rt.alloc();
-        dim(*b"C\0\0\0", 0, 1, 1),
-        dim(*b"X\0\0\0", 0, 4, 4),
-        dim(*b"Y\0\0\0", 0, 1, 0),
-    ]?;
-    assert!(rt; key(rt.alloc(), narrow)? < a);
+    let a = key(rt.alloc(), &TILE)?;
+    let b = key(rt.alloc(), &OTHER)?;
+    let c = key(rt.alloc(), &NARROW)?;
+    assert!(rt; a == b && c < a);
     equal_keys();
     Ok(())
 }
 
 #[test]
 fn copies(rt: HostRuntime) -> Result<(), Fail> {
-    let dims = tile(rt.alloc())?;
+    let dims = dims(rt.alloc(), &TILE)?;
     assert!(rt; dims.try_copy()? == dims);
     let info = EntryInfo {
         pixel: 3,

@@ -28,24 +28,35 @@ fn four_links(alloc: Global) -> Result<[u8; 240], AllocError> {
     Ok(slot)
 }
 
-#[test]
-fn one_link_is_read_again(rt: HostRuntime) -> Result<(), Fail> {
-    let mut links = Links::new(rt.alloc());
+/// The record of a commit of one link, 46 bytes, and other bytes behind it.
+fn one_link(rt: &impl Abort, alloc: Global) -> Result<[u8; 64], AllocError> {
+    let mut links = Links::new(alloc);
     links.reserve(1, 8)?;
     links.push(112, &[0x41, 0x42]);
+    assert!(rt; links.encoded_len() == 46);
     let head = SlotHead {
         guid: GUID,
         length: 128,
     };
-    assert!(rt; links.encoded_len() == 46);
     let mut slot = [0xeeu8; 64];
     links.encode(&head, &mut slot[..46]);
-    links.clear();
-    assert!(rt; links.count() == 0);
+    Ok(slot)
+}
+
+#[test]
+fn one_link_is_read_again(rt: HostRuntime) -> Result<(), Fail> {
+    let slot = one_link(&rt, rt.alloc())?;
+    let head = SlotHead {
+        guid: GUID,
+        length: 128,
+    };
+    let mut links = Links::new(rt.alloc());
     assert!(rt; decode(&slot, &mut links) == Ok(head));
     assert!(rt; links.count() == 1);
     let (place, bytes) = links.link(0);
     assert!(rt; place == 112 && bytes == [0x41, 0x42].as_slice());
+    links.clear();
+    assert!(rt; links.count() == 0);
     Ok(())
 }
 

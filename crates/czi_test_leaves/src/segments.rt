@@ -5,7 +5,6 @@ use czi_seg::{
     write_header,
 };
 use std::process::Abort;
-use std::test::Fail;
 
 /// The first 112 bytes of a document without items: its directory stands at 544.
 static EMPTY: [u8; 112] = [
@@ -16,14 +15,26 @@ static EMPTY: [u8; 112] = [
     2, 0, 0, 0, 0, 0, 0, 0, 0, 0, 0, 0, 0, 0, 0, 0, 0, 0, 0, 0, 0, 0, 0, 0, 0, 0, 0,
 ];
 
-/// Its identity.
-static IDENTITY: [u8; 52] = [
-    1, 0, 0, 0, 0, 0, 0, 0, 0, 0, 0, 0, 0, 0, 0, 0, 0x33, 0x22, 0x11, 0x00, 0x55, 0x44, 0x77, 0x66,
-    0x88, 0x99, 0xAA, 0xBB, 0xCC, 0xDD, 0xEE, 0xFF, 0x33, 0x22, 0x11, 0x00, 0x55, 0x44, 0x77, 0x66,
-    0x88, 0x99, 0xAA, 0xBB, 0xCC, 0xDD, 0xEE, 0xFF, 0, 0, 0, 0,
+/// Its file header.
+static HEADER: FileHeader = FileHeader {
+    identity: [
+        1, 0, 0, 0, 0, 0, 0, 0, 0, 0, 0, 0, 0, 0, 0, 0, 0x33, 0x22, 0x11, 0x00, 0x55, 0x44, 0x77,
+        0x66, 0x88, 0x99, 0xAA, 0xBB, 0xCC, 0xDD, 0xEE, 0xFF, 0x33, 0x22, 0x11, 0x00, 0x55, 0x44,
+        0x77, 0x66, 0x88, 0x99, 0xAA, 0xBB, 0xCC, 0xDD, 0xEE, 0xFF, 0, 0, 0, 0,
+    ],
+    directory: 544,
+    metadata: 0,
+    pending: 0,
+    attachments: 0,
+    allocated: 512,
+};
+
+/// The GUID in it.
+static GUID: [u8; 16] = [
+    0x33, 0x22, 0x11, 0x00, 0x55, 0x44, 0x77, 0x66, 0x88, 0x99, 0xAA, 0xBB, 0xCC, 0xDD, 0xEE, 0xFF,
 ];
 
-/// The front of a file header that is written with this identity.
+/// The front of a file header that is written with its identity.
 static WRITTEN: [u8; 112] = [
     0x5A, 0x49, 0x53, 0x52, 0x41, 0x57, 0x46, 0x49, 0x4C, 0x45, 0, 0, 0, 0, 0, 0, 0, 2, 0, 0, 0, 0,
     0, 0, 0, 2, 0, 0, 0, 0, 0, 0, 1, 0, 0, 0, 0, 0, 0, 0, 0, 0, 0, 0, 0, 0, 0, 0, 0x33, 0x22, 0x11,
@@ -78,37 +89,19 @@ fn check_id(rt: &impl Abort, id: &SegId, name: &[u8; 16]) {
 }
 
 #[test]
-fn a_file_header_is_read(rt: HostRuntime) -> Result<(), Fail> {
-    let header = read_file_header(&EMPTY).ok().ok_or("refused")?;
-    let same = FileHeader {
-        identity: IDENTITY,
-        directory: 544,
-        metadata: 0,
-        pending: 0,
-        attachments: 0,
-        allocated: 512,
-    };
-    assert!(rt; header == same);
-    let guid = [
-        0x33, 0x22, 0x11, 0x00, 0x55, 0x44, 0x77, 0x66, 0x88, 0x99, 0xAA, 0xBB, 0xCC, 0xDD, 0xEE,
-        0xFF,
-    ];
-    assert!(rt; header.guid() == guid);
-    Ok(())
+fn a_file_header_is_read(rt: HostRuntime) {
+    assert!(rt; read_file_header(&EMPTY) == Ok(HEADER));
+    assert!(rt; HEADER.guid() == GUID);
 }
 
 #[test]
 fn a_file_header_is_written(rt: HostRuntime) {
-    let identity = IDENTITY;
-    assert!(rt; read_i32(&identity, 48) == 0);
-    let header = FileHeader {
-        identity,
-        directory: 704,
-        metadata: -1,
-        pending: 1,
-        attachments: 1024,
-        allocated: 512,
-    };
+    let mut header = HEADER;
+    header.directory = 704;
+    header.metadata = -1;
+    header.pending = 1;
+    header.attachments = 1024;
+    assert!(rt; header.allocated == 512 && read_i32(&header.identity, 48) == 0);
     let bytes = write_file_header(&header);
     let (front, behind) = bytes.split_at(112);
     assert!(rt; front == WRITTEN.as_slice());
