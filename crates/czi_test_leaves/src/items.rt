@@ -49,19 +49,31 @@ fn key(alloc: Global, records: &[Record]) -> Result<Key, Fail> {
     Ok(Key::of(alloc, &dims)?)
 }
 
+/// Numbers of records, each with the length of the list that is made of them, or why none is.
+static LENGTHS: [(usize, Result<usize, ItemFault>); 4] = [
+    (0, Err(ItemFault::NoDims)),
+    (1, Ok(1)),
+    (40, Ok(40)),
+    (41, Err(ItemFault::ManyDims(41))),
+];
+
 #[test]
 fn lists_of_one_to_forty(rt: HostRuntime) -> Result<(), Fail> {
-    assert!(rt; length_of_list(rt.alloc(), 0)? == Err(ItemFault::NoDims));
-    assert!(rt; length_of_list(rt.alloc(), 1)? == Ok(1));
-    assert!(rt; length_of_list(rt.alloc(), 40)? == Ok(40));
-    assert!(rt; length_of_list(rt.alloc(), 41)? == Err(ItemFault::ManyDims(41)));
+    for (records, length) in LENGTHS.iter() {
+        check_length(&rt, rt.alloc(), *records, *length)?;
+    }
     Ok(())
 }
 
-/// How long a list is that is made of so many records, or why none is made.
-fn length_of_list(alloc: Global, records: usize) -> Result<Result<usize, ItemFault>, AllocError> {
+fn check_length(
+    rt: &impl Abort,
+    alloc: Global,
+    records: usize,
+    length: Result<usize, ItemFault>,
+) -> Result<(), AllocError> {
     let list = vec![in alloc; dim(&TILE[0]); records]?;
-    Ok(Dims::new(list).map(|dims| dims.list().len()))
+    assert!(rt; Dims::new(list).map(|dims| dims.list().len()) == length);
+    Ok(())
 }
 
 #[test]
@@ -70,28 +82,12 @@ fn sizes_as_stored(rt: HostRuntime) {
     assert!(rt; dim(&(*b"X\0\0\0", 0, 7, 0)).stored_size() == 7);
 }
 
-/// Records, each list with what is written of it.
-static WRITTEN: [(&[Record], &str); 2] = [
-    (
-        &[
-            (*b"C\0\0\0", 0, 1, 1),
-            (*b"X\0\0\0", 0, 4, 4),
-            (*b"Y\0\0\0", 0, 2, 0),
-        ],
-        "=C0:1:1,X0:4:4,Y0:2:2",
-    ),
-    (
-        &[([b'%', 0x1F, 0xAB, b'~'], -2147483648, 2147483647, -1)],
-        "=%25%1f%ab~-2147483648:2147483647:-1",
-    ),
-];
-
 #[test]
 fn written_text(rt: HostRuntime) -> Result<(), Fail> {
-    for (records, text) in WRITTEN.iter() {
-        check_written(&rt, rt.alloc(), records, text)?;
-    }
-    Ok(())
+    check_written(&rt, rt.alloc(), &TILE, "=C0:1:1,X0:4:4,Y0:2:2")?;
+    let foreign = [([b'%', 0x1F, 0xAB, b'~'], -2147483648, 2147483647, -1)];
+    let text = "=%25%1f%ab~-2147483648:2147483647:-1";
+    check_written(&rt, rt.alloc(), &foreign, text)
 }
 
 fn check_written(
