@@ -1,0 +1,238 @@
+//! `czi_image`: what an index holds of an image, and after a subblock was taken out.
+
+ghost use Rattle.std.specs.Prelude.{◌≡◌, ◌≤◌, ◌^◌};
+
+use crate::documents::{Part, document, image_of, index_in, put};
+use czi_image::{DirItem, ImageFault, Index, read_index};
+use czi_num::Span;
+use czi_rig::MemRig;
+use std::alloc::Global;
+use std::process::Abort;
+use std::test::Fail;
+
+// A document without items, whose directory stands at 544.
+static EMPTY: [Part; 7] = [
+    (0, b"ZISRAWFILE"),
+    (16, &[0, 2]),
+    (24, &[0, 2]),
+    (84, &[0x20, 2]),
+    (544, b"ZISRAWDIRECTORY"),
+    (560, &[128]),
+    (568, &[128]),
+];
+
+// The document without items in a file of so many bytes that end with this byte, and with more parts; where the walk ends,
+// how many segments of it are unknown, and the place and the length of each free extent.
+struct Beside {
+    length: usize,
+    tail: u8,
+    parts: &'static [Part],
+    walk_end: u64,
+    unknown: u64,
+    free: &'static [(u64, u64)],
+}
+
+static BESIDE: [Beside; 3] = [
+    Beside {
+        length: 704,
+        tail: 0,
+        parts: &[],
+        walk_end: 704,
+        unknown: 0,
+        free: &[],
+    },
+    Beside {
+        length: 804,
+        tail: 0xFF,
+        parts: &[],
+        walk_end: 704,
+        unknown: 0,
+        free: &[],
+    },
+    Beside {
+        length: 802,
+        tail: 0,
+        parts: &[
+            (704, b"DELETED"),
+            (720, &[32]),
+            (768, b"FOREIGN"),
+            (784, &[1]),
+        ],
+        walk_end: 801,
+        unknown: 1,
+        free: &[(704, 64)],
+    },
+];
+
+// The index has a directory on the walk, with this extent.
+fn check_directory(rt: &impl Abort, index: &Index, at: u64, len: u64) -> Result<(), Fail> {
+    let directory = index.directory.ok_or("no directory")?;
+    assert!(rt; directory.span.at == at && directory.span.len == len && directory.walked);
+    Ok(())
+}
+
+// The free extents are these.
+fn check_extents(rt: &impl Abort, extents: &[Span], free: &[(u64, u64)]) {
+    assert!(rt; extents.len() == free.len());
+    for (extent, (at, len)) in extents.iter().zip(free) {
+        assert!(rt; extent.at == *at && extent.len == *len, "at {at}");
+    }
+}
+
+fn check_beside(rt: &impl Abort, alloc: Global, row: &Beside) -> Result<(), Fail> {
+    let mut image = image_of(rt, alloc, 704, &EMPTY)?;
+    image.resize(row.length, row.tail)?;
+    put(rt, &mut image, row.parts);
+    let index = index_in(alloc, &image)?;
+    assert!(rt; index.length == row.length as u64 && index.walk_end == row.walk_end);
+    assert!(rt; index.unknown == row.unknown);
+    check_extents(rt, &index.extents, row.free);
+    assert!(rt; index.tiles.is_empty() && index.attachments.is_empty() && index.metadata.is_none());
+    check_directory(rt, &index, 544, 160)
+}
+
+#[test]
+fn the_walk_shows_what_lies_beside_the_live_segments(rt: HostRuntime) -> Result<(), Fail> {
+    for row in BESIDE.iter() {
+        check_beside(&rt, rt.alloc(), row)?;
+    }
+    Ok(())
+}
+
+// The only subblock of the document.
+fn check_tile(rt: &impl Abort, index: &Index) {
+    assert!(rt; index.tiles.len() == 1);
+    let tile = &index.tiles[0];
+    assert!(rt; tile.walked && tile.span.at == 768 && tile.span.len == 320);
+    assert!(rt; tile.begin == 1056 && tile.meta == 0 && tile.pixels == 8 && tile.tail == 0);
+    assert!(rt; tile.head.allocated == 288 && tile.head.used == 264);
+}
+
+// Its only attachment.
+fn check_attachment(rt: &impl Abort, index: &Index) {
+    assert!(rt; index.attachments.len() == 1);
+    let item = &index.attachments[0];
+    assert!(rt; item.walked && item.span.at == 1504 && item.span.len == 292 && item.size == 4);
+}
+
+// Its metadata.
+fn check_metadata(rt: &impl Abort, index: &Index) -> Result<(), Fail> {
+    let metadata = index.metadata.ok_or("no metadata")?;
+    assert!(rt; metadata.span.at == 1800 && metadata.span.len == 293 && !metadata.walked);
+    assert!(rt; metadata.xml == 5 && metadata.tail == 0);
+    Ok(())
+}
+
+#[test]
+fn a_document_is_read_by_one_read_each(rt: HostRuntime) -> Result<(), Fail> {
+    let image = document(&rt, rt.alloc(), 2093)?;
+    let mut rig = MemRig::new(rt.alloc(), &image, b"")?;
+    let index = read_index(rt.alloc(), &mut rig).map_err(|_| "refused")?;
+    assert!(rt; rig.calls() == 12 && index.walk_end == 1796 && index.unknown == 0);
+    check_tile(&rt, &index);
+    check_attachment(&rt, &index);
+    check_metadata(&rt, &index)
+}
+
+// The device's fault is answered where the call with this number fails.
+fn check_failing(rt: &impl Abort, alloc: Global, image: &[u8], number: u64) -> Result<(), Fail> {
+    let mut rig = MemRig::new(alloc, image, b"")?;
+    rig.fail_call(number)?;
+    let fault = read_index(alloc, &mut rig).err();
+    assert!(rt; fault == Some(ImageFault::Device), "call {number}");
+    Ok(())
+}
+
+#[test]
+fn a_failed_call_is_answered(rt: HostRuntime) -> Result<(), Fail> {
+    let image = document(&rt, rt.alloc(), 2093)?;
+    for number in 0..12 {
+        check_failing(&rt, rt.alloc(), &image, number)?;
+    }
+    Ok(())
+}
+
+// Two subblocks, at 832 and at 1152, and 64 free bytes behind them. The directory stands at 544, its entries at 704
+// and at 756.
+static TWO: [Part; 28] = [
+    (0, b"ZISRAWFILE"),
+    (16, &[0, 2]),
+    (24, &[0, 2]),
+    (84, &[0x20, 2]),
+    (544, b"ZISRAWDIRECTORY"),
+    (560, &[0, 1]),
+    (568, &[232]),
+    (576, &[2]),
+    (704, b"DV"),
+    (710, &[0x40, 3]),
+    (732, &[1]),
+    (736, b"X"),
+    (756, b"DV"),
+    (762, &[0x80, 4]),
+    (784, &[1]),
+    (788, b"X"),
+    (832, b"ZISRAWSUBBLOCK"),
+    (848, &[0x20, 1]),
+    (856, &[8, 1]),
+    (872, &[8]),
+    (908, &[1]),
+    (1152, b"ZISRAWSUBBLOCK"),
+    (1168, &[0x20, 1]),
+    (1176, &[8, 1]),
+    (1192, &[5]),
+    (1228, &[1]),
+    (1472, b"DELETED"),
+    (1488, &[32]),
+];
+
+// The number of the subblock that goes, and the place of the one that stays.
+static OTHERS: [(usize, u64); 2] = [(0, 1152), (1, 832)];
+
+// A directory of 192 bytes.
+fn directory_at(at: u64) -> DirItem
+    requires { at ≤ 2 ^ 20 }
+    ensures at { result.span.at ≡ at }
+    ensures len { result.span.len ≡ 192 }
+{
+    let span = Span { at, len: 192 };
+    DirItem { span, walked: true }
+}
+
+// The index without the subblock at a place: its directory stands behind the image, and nothing is free.
+fn removed_at_end(alloc: Global, mut index: Index, i: usize) -> Option<Index> {
+    if i >= index.tiles.len() || index.length > 4096 {
+        return None;
+    }
+    let directory = directory_at(index.length);
+    let length = index.length + 192;
+    index.remove_tile(i, directory, Vec::new(alloc), length, length);
+    Some(index)
+}
+
+// The index of the image with the two subblocks.
+fn check_both(rt: &impl Abort, index: &Index) {
+    assert!(rt; index.length == 1536 && index.walk_end == 1536 && index.tiles.len() == 2);
+    check_extents(rt, &index.extents, &[(1472, 64)]);
+}
+
+// The index whose directory lies behind the image and has one subblock, at this place.
+fn check_other(rt: &impl Abort, index: &Index, other: u64) -> Result<(), Fail> {
+    assert!(rt; index.tiles.len() == 1);
+    let tile = &index.tiles[0];
+    assert!(rt; tile.span.at == other && tile.span.len == 320 && index.header.directory == 1536);
+    assert!(rt; index.length == 1728 && index.walk_end == 1728 && index.unknown == 0);
+    assert!(rt; index.extents.is_empty());
+    check_directory(rt, index, 1536, 192)
+}
+
+#[test]
+fn a_subblock_is_taken_out(rt: HostRuntime) -> Result<(), Fail> {
+    let image = image_of(&rt, rt.alloc(), 1536, &TWO)?;
+    for (i, other) in OTHERS.iter() {
+        let index = index_in(rt.alloc(), &image)?;
+        check_both(&rt, &index);
+        let index = removed_at_end(rt.alloc(), index, *i).ok_or("no such subblock")?;
+        check_other(&rt, &index, *other)?;
+    }
+    Ok(())
+}
