@@ -1,8 +1,8 @@
 -- What an edit answers, and what it leaves.
-use Rattle.std.specs.Prelude.{◌≡◌, ◌⊎◌, ℕ, List, Bool, true, false, Option, None, Some, IfSome, Result, Ok, Err}
+use Rattle.std.specs.Prelude.{◌≡◌, ◌⊎◌, ℕ, List, Bool, Option, None, Some, is_some, IfSome, IsErrAnd, Result, Ok, Err}
 use Rattle.std.specs.Option.{ForSome}
 use Rattle.czi_format.specs.Live.{Live}
-use Rattle.czi_format.specs.Space.{Fit, Full as NoPlace, fit}
+use Rattle.czi_format.specs.Space.{fit}
 use Rattle.czi_machine.specs.Edit.{Edit, Refusal, no_key, full}
 use Rattle.czi_machine.specs.Machine.{after_edit}
 use Rattle.czi_machine.specs.State.{State as MachineState}
@@ -12,8 +12,6 @@ use Rattle.czi_plan.specs.declared.plan.PlanFault.{PlanFault}
 use Rattle.czi_plan.specs.declared.plan.PlanFault.TheVariants.{Full as NoPlaceIn, Memory as NoMemory}
 use Rattle.czi_rig.specs.declared.file.File.TheVariants.{Image}
 use Rattle.czi_rig.specs.State.{State, Instant, seen_of}
-use Rattle.czi_rig.specs.Passes.{Rose}
-use Rattle.czi_rig.specs.Moments.{Devices}
 use Rattle.czi_space.specs.State.{space_of}
 use Rattle.czi_vault.specs.Recovered.{Recovered}
 use Rattle.czi_vault.specs.declared.committing.VaultFault.{VaultFault}
@@ -21,6 +19,7 @@ use Rattle.czi_vault.specs.declared.committing.VaultFault.TheVariants.{Image as 
 use Rattle.czi_engine.specs.Stands.{OpensAs}
 use Rattle.czi_engine.specs.Standing.{HasState, KeepsItems}
 use Rattle.czi_engine.specs.declared.engine.Engine.{Engine}
+use Rattle.czi_engine.specs.Devices.{edit_device}
 use Rattle.czi_engine.specs.declared.error.EditError.{EditError}
 use Rattle.czi_engine.specs.declared.error.EditError.TheVariants.{NoKey, Full, Memory, ImageDevice, JournalDevice}
 
@@ -60,6 +59,10 @@ refusal_of JournalDevice = None
 abbrev pub Refuses : Edit → MachineState → EditError → Type 0
 Refuses edit s error = IfSome (refusal_of error) (λ refusal. after_edit s edit ≡ Err refusal)
 
+-- where the machine refuses, so does the answer, or memory is wanting
+abbrev pub RefusesToo : {T : Type 0} → Edit → MachineState → Result T EditError → Type 0
+RefusesToo edit s result = (refusal : Refusal) → after_edit s edit ≡ Err refusal → IsErrAnd result (λ error. (refusal_of error ≡ Some refusal) ⊎ (error ≡ Memory))
+
 -- why there is no plan, as an edit's error
 abbrev pub unplanned : PlanFault → EditError
 unplanned (NoPlaceIn need length) = Full need length
@@ -72,11 +75,7 @@ error_of JournalFails = JournalDevice
 
 -- it tells of a device
 abbrev pub is_device : EditError → Bool
-is_device NoKey = false
-is_device (Full need length) = false
-is_device Memory = false
-is_device ImageDevice = true
-is_device JournalDevice = true
+is_device error = is_some (edit_device error)
 
 -- why a removal has no plan: its directory has no place, or memory is wanting
 abbrev pub HasNoPlan : Engine → ℕ → EditError → Type 0
@@ -85,14 +84,6 @@ HasNoPlan x i Memory = Unit {0}
 HasNoPlan x i NoKey = ⊥
 HasNoPlan x i ImageDevice = ⊥
 HasNoPlan x i JournalDevice = ⊥
-
--- a device fails only where the count of that file rose
-abbrev pub IsCaused : State → State → EditError → Type 0
-IsCaused old new NoKey = Unit {0}
-IsCaused old new (Full need length) = Unit {0}
-IsCaused old new Memory = Unit {0}
-IsCaused old new ImageDevice = Rose old.image_faults new.image_faults
-IsCaused old new JournalDevice = Rose old.journal_faults new.journal_faults
 
 -- all but the buffers of an edit is as it was
 pub record SameEngine (old new : Engine) : Type 0 where

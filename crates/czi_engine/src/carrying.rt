@@ -11,11 +11,13 @@ ghost use Rattle.czi_plan.specs.Removal.{Removes, left_entries};
 ghost use Rattle.czi_rig.specs.Disk.{Everywhere, at_rest};
 ghost use Rattle.czi_rig.specs.State.{known};
 ghost use Rattle.czi_rig.specs.Passes.{GoesOn};
+ghost use Rattle.czi_rig.specs.Faults.{Faults, fault_at};
 ghost use Rattle.czi_rig.specs.Moments.{devices, Throughout, LeavesNow};
 ghost use Rattle.czi_vault.specs.Recovered.{IsFree, Recovered, StandsNow, StandsOr, View};
 ghost use Rattle.czi_image.specs.Removed.{IsWithout};
 ghost use Rattle.czi_machine.specs.Machine.{one_more};
-ghost use Rattle.czi_engine.specs.Editing.{IsCaused, KeepsPlan, error_of, is_device};
+ghost use Rattle.czi_engine.specs.Devices.{edit_device};
+ghost use Rattle.czi_engine.specs.Editing.{KeepsPlan, error_of, is_device};
 ghost use Rattle.czi_engine.specs.Next.{IsPrepared};
 ghost use Rattle.czi_engine.specs.Standing.{AreWhole, HasItsMap, StandsOnRig, file_of};
 
@@ -48,7 +50,7 @@ impl Engine {
         ensures device { IfErr result (λ error. IsTrue (is_device error)) }
         ensures said { (R.state rig.new).said ≡ (R.state rig.old).said }
         ensures goes_on { GoesOn (R.state rig.old) (R.state rig.new) }
-        ensures cause { IfErr result (IsCaused (R.state rig.old) (R.state rig.new)) }
+        ensures cause { Faults (fault_at edit_device result) (R.state rig.old) (R.state rig.new) }
     {
         let file = SlotHead {
             guid: self.index.header.guid(),

@@ -5,11 +5,13 @@ ghost use Rattle.std.specs.Option.{ForSome};
 ghost use Rattle.czi_journal.specs.Journals.{slot_of};
 ghost use Rattle.czi_links.specs.Reading.{Void};
 ghost use Rattle.czi_num.specs.Span.{span_of};
-ghost use Rattle.czi_opening.specs.Answers.{AreRecovered, IsCaused, Tells};
+ghost use Rattle.czi_opening.specs.Answers.{AreRecovered, Tells};
+ghost use Rattle.czi_opening.specs.Devices.{open_device};
 ghost use Rattle.czi_opening.specs.Course.{From, OpensFrom, Stays};
 ghost use Rattle.czi_rig.specs.Disk.{Everywhere, IsAtRest};
 ghost use Rattle.czi_rig.specs.State.{LeavesOther, known, seen_of};
-ghost use Rattle.czi_rig.specs.Passes.{GoesOn, Rose};
+ghost use Rattle.czi_rig.specs.Passes.{GoesOn};
+ghost use Rattle.czi_rig.specs.Faults.{Faults, device_of, failed_at, fault_at};
 ghost use Rattle.czi_rig.specs.Moments.{devices, Throughout};
 ghost use Rattle.czi_rig.specs.Quiet.{Untouched};
 ghost use Rattle.czi_space.specs.State.{Has};
@@ -61,7 +63,7 @@ impl Engine {
         ensures meanwhile { IfErr result (λ error. ForSome (devices (R.state rig.old)) (λ all. OpensFrom R.Rig rig.old rig.new (Stays all) (Err error))) }
         ensures said { (R.state rig.new).said ≡ (R.state rig.old).said }
         ensures goes_on { GoesOn (R.state rig.old) (R.state rig.new) }
-        ensures cause { IfErr result (IsCaused (R.state rig.old) (R.state rig.new)) }
+        ensures cause { Faults (fault_at open_device result) (R.state rig.old) (R.state rig.new) }
     {
         let opened = open(alloc, rig)?;
         match Engine::of(alloc, opened) {
@@ -112,7 +114,7 @@ impl Engine {
         ensures meanwhile { IfErr result (λ error. ForSome (devices (R.state rig.old)) (λ all. OpensFrom R.Rig rig.old rig.new (Stays all) (Err error))) }
         ensures said { (R.state rig.new).said ≡ (R.state rig.old).said }
         ensures goes_on { GoesOn (R.state rig.old) (R.state rig.new) }
-        ensures cause { IfErr result (IsCaused (R.state rig.old) (R.state rig.new)) }
+        ensures cause { Faults (fault_at open_device result) (R.state rig.old) (R.state rig.new) }
     {
         self.down = true;
         let again = open(alloc, rig)?;
@@ -155,7 +157,7 @@ impl Engine {
         ensures idle { self.journal.armed ≡ false → Untouched R.Rig rig.old rig.new }
         ensures other { LeavesOther File.Journal (R.state rig.old) (R.state rig.new) }
         ensures goes_on { GoesOn (R.state rig.old) (R.state rig.new) }
-        ensures cause { OnErr result (Rose (R.state rig.old).journal_faults (R.state rig.new).journal_faults) }
+        ensures cause { Faults (failed_at result (device_of File.Journal)) (R.state rig.old) (R.state rig.new) }
     {
         close(rig, self.journal)
     }

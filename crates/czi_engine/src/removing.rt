@@ -11,9 +11,10 @@ ghost use Rattle.czi_machine.specs.State.{State as MachineState};
 ghost use Rattle.czi_plan.specs.Search.{tile_with};
 ghost use Rattle.czi_rig.specs.State.{seen_of};
 ghost use Rattle.czi_rig.specs.Passes.{GoesOn};
+ghost use Rattle.czi_rig.specs.Faults.{Faults, fault_at};
 ghost use Rattle.czi_rig.specs.Moments.{devices, Throughout};
-ghost use Rattle.czi_rig.specs.Quiet.{Untouched};
-ghost use Rattle.czi_engine.specs.Editing.{Accepts, DuringEdit, HasNoPlan, IsCaused, Refuses, SameEngine, is_device};
+ghost use Rattle.czi_engine.specs.Devices.{edit_device};
+ghost use Rattle.czi_engine.specs.Editing.{Accepts, DuringEdit, HasNoPlan, Refuses, RefusesToo, SameEngine, is_device};
 ghost use Rattle.czi_engine.specs.Next.{IsPrepared};
 ghost use Rattle.czi_engine.specs.Standing.{AreWhole, HasItsMap, HasState, StandsOnRig};
 
@@ -72,7 +73,7 @@ impl Engine {
         ensures device { IfErr result (λ error. IsTrue (is_device error)) }
         ensures said { (R.state rig.new).said ≡ (R.state rig.old).said }
         ensures goes_on { GoesOn (R.state rig.old) (R.state rig.new) }
-        ensures cause { IfErr result (IsCaused (R.state rig.old) (R.state rig.new)) }
+        ensures cause { Faults (fault_at edit_device result) (R.state rig.old) (R.state rig.new) }
     {
         match self.carry(rig) {
             Ok(()) => {
@@ -91,7 +92,8 @@ impl Engine {
     /// # Errors
     ///
     /// `NoKey` exactly where no subblock has the key; then `Full` exactly where the new directory has no place; then
-    /// `Memory`. After these three both files and the engine are as before. After a device's fault the engine is down.
+    /// `Memory`. No device is asked before these three: both files, the device and the engine are as before. After a
+    /// device's fault the engine is down.
     pub fn remove<R: Rig>(
         &mut self,
         alloc: Global,
@@ -109,15 +111,18 @@ impl Engine {
             → Accepts (remove (dims_of dims.now)) start s (R.state rig.new) self.new n)) }
         ensures stands { OnOk result (StandsOnRig (R.state rig.new) self.new) }
         ensures up { OnOk result (IsFalse self.new.down) }
-        // A refusal is the machine's. It leaves all as it was, and so does want of memory.
+        // A refusal is the machine's, and what it refuses is refused, whatever a device would do.
         ensures refused { IfErr result (λ error. ForSome (seen_of (R.state rig.old) File.Image) (λ bytes. (start : List ℕ) (live : Live) (s : MachineState) → HasState start bytes live s self.old
             → Refuses (remove (dims_of dims.now)) s error)) }
-        ensures untouched { IfErr result (λ error. IsFalse (is_device error) → Untouched R.Rig rig.old rig.new × SameEngine self.old self.new) }
+        ensures refuses { ForSome (seen_of (R.state rig.old) File.Image) (λ bytes. (start : List ℕ) (live : Live) (s : MachineState) → HasState start bytes live s self.old
+            → RefusesToo (remove (dims_of dims.now)) s result) }
+        // No device is asked before all memory is taken: after a refusal and after want of it all is as it was.
+        ensures quiet { IfErr result (λ error. IsFalse (is_device error) → (rig.new ≡ rig.old) × SameEngine self.old self.new) }
         // After a device's fault the engine is down.
         ensures down { IfErr result (λ error. self.new.down ≡ is_device error) }
         ensures said { (R.state rig.new).said ≡ (R.state rig.old).said }
         ensures goes_on { GoesOn (R.state rig.old) (R.state rig.new) }
-        ensures cause { IfErr result (IsCaused (R.state rig.old) (R.state rig.new)) }
+        ensures cause { Faults (fault_at edit_device result) (R.state rig.old) (R.state rig.new) }
     {
         match tile_with(&self.index.tiles, dims) {
             Some(i) => match self.prepare_removal(alloc, i) {
