@@ -88,10 +88,10 @@ unopened_alone Refused ends = tt
 unopened_alone (Stopped stop) ends = ends
 
 -- nothing was read
-pub unopened_with : (ended : Ended) (a b : State) (x : ℕ) → EndsUnopened ended → Faults (end_device ended) a b → FaultsWith (end_device ended) a b x x
-unopened_with Done a b x ends cause = absurd ends
-unopened_with Refused a b x ends cause = record { rig = cause; input_count = refl }
-unopened_with (Stopped stop) a b x ends cause = record { rig = cause; input_count = no_input stop x x ends refl }
+pub alone_with : (ended : Ended) (a b : State) (x : ℕ) → EndsAlone ended → Faults (end_device ended) a b → FaultsWith (end_device ended) a b x x
+alone_with Done a b x ends cause = record { rig = cause; input_count = refl }
+alone_with Refused a b x ends cause = record { rig = cause; input_count = refl }
+alone_with (Stopped stop) a b x ends cause = record { rig = cause; input_count = no_input stop x x ends refl }
 
 -- where no device failed, no file did
 pub no_file : (at : Option Device) → at ≡ None → IsFile at → ⊥

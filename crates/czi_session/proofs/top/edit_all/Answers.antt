@@ -2,7 +2,7 @@ use Rattle.std.proofs.Common.{inl, inr, refl}
 use Rattle.czi_session.specs.Text.{last_text}
 use Rattle.czi_session.proofs.Ending.{open_prefix, from_weaker, from_more, starts, unopened}
 use Rattle.czi_session.proofs.Kept.{once_weaker}
-use Rattle.czi_session.proofs.Stops.{unopened_with, with_then}
+use Rattle.czi_session.proofs.Stops.{alone_with, unopened_alone, with_then}
 use Rattle.czi_session.proofs.top.edit_all.Goals as goal
 
 pub returns-in-Err-script-clause-moments : goal.returns-in-Err-script-clause-moments
@@ -62,4 +62,4 @@ pub returns-in-Ok-script-clause-cause : goal.returns-in-Ok-script-clause-cause
 returns-in-Ok-script-clause-cause g c = with_then _ _ _ _ _ _ _ (record { rig = c.in-Ok.ensures.cause; input_count = refl }) c.in-Ok-script.ensures.cause
 
 pub returns-in-Err-clause-cause : goal.returns-in-Err-clause-cause
-returns-in-Err-clause-cause g c = unopened_with c.in-Err.ended _ _ _ c.in-Err.ensures.unopened c.in-Err.ensures.cause
+returns-in-Err-clause-cause g c = alone_with c.in-Err.ended _ _ _ (unopened_alone c.in-Err.ended c.in-Err.ensures.unopened) c.in-Err.ensures.cause
