@@ -1,5 +1,5 @@
 -- A text that is said while a document stands.
-use Rattle.std.proofs.Common.{◌≡◌, inl, inr, ℕ, Some, List, take, ◌++◌, ◌∙◌, ap, refl, sym, subst}
+use Rattle.std.proofs.Common.{◌≡◌, inl, inr, ℕ, None, Some, List, take, ◌++◌, ◌∙◌, ap, refl, sym, subst}
 use Rattle.std.specs.Prelude.{option_map}
 use Rattle.czi_script.specs.Script.{Command}
 use Rattle.czi_session.specs.Course.{Model, OnlySays, Stands, EitherSide, WhileSaid, WithinStep, OpensNow, OpensWhatever}
@@ -12,7 +12,8 @@ use Rattle.czi_rig.proofs.Known.{said_known, known_said}
 use Rattle.czi_rig.proofs.Runs.{run_begins, run_is, run_says, started, weaker}
 use Rattle.czi_session.specs.declared.stop.EditorStop.{EditorStop}
 use Rattle.czi_session.specs.declared.stop.EditorStop.TheVariants.{Image as ImageOf, Journal as JournalOf, Memory as MemoryOf}
-use Rattle.czi_session.specs.Stops.{stop_of}
+use Rattle.czi_rig.specs.Faults.{image as the_image, journal as the_journal}
+use Rattle.czi_session.specs.Stops.{editor_device, stop_of}
 use Rattle.czi_session.specs.Ends.{StepStops}
 
 pub while_said : (m : Model) (on : Disk → Disk → m.Document → Type 0) → OpensNow m on → (state : State) (before bytes text : List ℕ) (s : m.Document) (h : Stands m on state before s) → bytes ≡ text
@@ -59,10 +60,10 @@ module _ {D : Type 0} (rig : Ghosts D) where
 
 -- a command that did nothing stopped
 pub perform_stops : (m : Model) (on : Disk → Disk → m.Document → Type 0) → OpensNow m on → (old new : State) (said : List ℕ) (s : m.Document) (c : Command) (stop : EditorStop) → Stands m on old said s → new.said ≡ old.said
-    → (stop ≡ MemoryOf → new ≡ old) → StepStops m (OpensWhatever m) new s c said (stop_of stop)
-perform_stops m on opens_now old new said s c ImageOf h same starved = same ∙ said_known_of m on old said s h
-perform_stops m on opens_now old new said s c JournalOf h same starved = same ∙ said_known_of m on old said s h
-perform_stops m on opens_now old new said s c MemoryOf h same starved =
+    → (m.still s c → editor_device stop ≡ None) → (stop ≡ MemoryOf → new ≡ old) → StepStops m (OpensWhatever m) new s c said (stop_of stop)
+perform_stops m on opens_now old new said s c ImageOf h same quiet starved = (same ∙ said_known_of m on old said s h, λ still. let none : Some the_image ≡ None = quiet still in cc)
+perform_stops m on opens_now old new said s c JournalOf h same quiet starved = (same ∙ said_known_of m on old said s h, λ still. let none : Some the_journal ≡ None = quiet still in cc)
+perform_stops m on opens_now old new said s c MemoryOf h same quiet starved =
     subst (λ (state : State). Stands m (OpensWhatever m) state said s) (sym (starved refl)) (stands_open m on opens_now old said s h)
 
 module _ {D : Type 0} (rig : Ghosts D) where

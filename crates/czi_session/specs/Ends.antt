@@ -30,12 +30,12 @@ Refuses m image journal (RefusedOf text) = m.refuses image journal text.items
 Refuses m image journal (StoppedOf stop) = Unit {0}
 
 module _ (m : Model) (on : Disk → Disk → m.Document → Type 0) (state : State) where
-  -- Where one command and its reply stop, this was said. At a fault of the output the state after it stands, and where memory
-  -- is wanting the one before it.
+  -- Where one command and its reply stop, this was said. A file fails only in a command that changes something. At a fault of
+  -- the output the state after it stands, and where memory is wanting the one before it.
   abbrev pub StepStops : m.Document → Command → List ℕ → Stop → Type 0
   StepStops s c before Output = (n : ℕ) × (n ≤ length (m.reply s c)) × Stands m on state (before ++ take n (m.reply s c)) (m.after s c)
-  StepStops s c before Image = state.said ≡ Some before
-  StepStops s c before Journal = state.said ≡ Some before
+  StepStops s c before Image = (state.said ≡ Some before) × (m.still s c → ⊥)
+  StepStops s c before Journal = (state.said ≡ Some before) × (m.still s c → ⊥)
   StepStops s c before Memory = Stands m on state before s
   StepStops s c before Input = ⊥
   StepStops s c before (Script number kind) = ⊥

@@ -9,6 +9,7 @@ use Rattle.czi_session.proofs.steps.step.Goals as goal
 pub returns-clause-stops : goal.returns-clause-stops
 returns-clause-stops g c = λ said s h.
     rw c.stop_of.ensures (perform_stops g.E.Editor.model (g.E.Editor.stands c.args.editor.now) (g.met.E.Editor.opens_now c.args.editor.now) (g.R.Rig.state c.args.rig.now) (g.R.Rig.state c.perform.new.rig) said s (command_of c.args.command.now) c.in-Err.stop h c.perform.ensures.said
+    (λ still. (c.in-Err.ensures.still said s h still).0)
     (λ is. ap g.R.Rig.state (c.in-Err.ensures.starved (ap (λ (e : EditorStop). let r : Result (Unit {0}) EditorStop = Err e in r) is))))
 
 pub returns-clause-still : goal.returns-clause-still
