@@ -1,5 +1,5 @@
 -- An edit, as a session takes it.
-use Rattle.std.proofs.Common.{◌≡◌, ℕ, List, Option, None, Some, IfSome, Result, Ok, Err, OnOk, refl, sym, ap, ◌∙◌, subst}
+use Rattle.std.proofs.Common.{◌≡◌, ◌⊎◌, ⊎_elim, ℕ, List, Option, None, Some, IfSome, Result, Ok, Err, OnOk, refl, sym, ap, ◌∙◌, subst}
 use Rattle.std.specs.Prelude.{IsFalse}
 use Rattle.std.proofs.lemmas.Option.{none-some, same_Some}
 use Rattle.czi_format.specs.Entry.{Dim}
@@ -7,12 +7,14 @@ use Rattle.czi_machine.specs.Edit.{Refusal, remove}
 use Rattle.czi_machine.specs.Machine.{after_edit}
 use Rattle.czi_machine.specs.State.{State as MachineState}
 use Rattle.czi_rig.specs.declared.file.File.TheVariants.{Image, Journal}
-use Rattle.czi_rig.specs.State.{State, SameAll, SameFiles}
+use Rattle.czi_rig.specs.State.{State, SameAll, SameFiles, known}
+use Rattle.czi_rig.specs.declared.rig.Rig.{Ghosts}
 use Rattle.czi_rig.specs.Passes.{GoesOn}
 use Rattle.czi_rig.specs.Moments.{Devices, devices, all_of}
 use Rattle.czi_rig.proofs.Known.{known_file, known_said, known_seen, same_known, told_after}
 use Rattle.czi_script.specs.Script.{Remove}
 use Rattle.czi_session.specs.Course.{EitherSide, Stands}
+use Rattle.czi_engine.specs.Devices.{edit_device}
 use Rattle.czi_engine.specs.Editing.{Accepts, DuringEdit, SameEngine, is_device, or_before, refusal_of, state_after}
 use Rattle.czi_engine.specs.declared.error.EditError.{EditError}
 use Rattle.czi_engine.specs.declared.error.EditError.TheVariants.{NoKey, Full, Memory, ImageDevice, JournalDevice}
@@ -84,6 +86,22 @@ no_device (Full need length) r is = refl
 no_device Memory r is = refl
 no_device ImageDevice r is = absurd (none-some r is)
 no_device JournalDevice r is = absurd (none-some r is)
+
+-- nor is what the machine refuses, or want of memory
+pub told_no_device : (error : EditError) (r : Refusal) → (refusal_of error ≡ Some r) ⊎ (error ≡ Memory) → edit_device error ≡ None
+told_no_device NoKey r told = refl
+told_no_device (Full need length) r told = refl
+told_no_device Memory r told = refl
+told_no_device ImageDevice r told = absurd (⊎_elim (λ is. none-some r is) (λ is. cc) told)
+told_no_device JournalDevice r told = absurd (⊎_elim (λ is. none-some r is) (λ is. cc) told)
+
+-- a device that is as it was altogether
+pub same_all : {D : Type 0} (rig : Ghosts D) {old new : D} → new ≡ old → SameAll (rig.state old) (rig.state new)
+same_all rig same = record {
+  image = ap (λ x. known (rig.state x) Image) same;
+  journal = ap (λ x. known (rig.state x) Journal) same;
+  said = ap (λ x. (rig.state x).said) same;
+}
 
 -- an engine whose edit was refused may be used
 pub refused_ready : (x y : Engine) (old new : State) → IsReady x old → SameEngine x y → SameFiles old new → GoesOn old new → IsReady y new

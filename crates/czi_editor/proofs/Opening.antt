@@ -1,13 +1,13 @@
 -- Opening an engine, as a session takes it.
-use Rattle.std.proofs.Common.{◌≡◌, ◌⊎◌, ℕ, List, Some, Err, refl, sym, ap, ◌∙◌, subst, inl, inr, ⊎_elim}
+use Rattle.std.proofs.Common.{◌≡◌, ℕ, List, Option, Some, Err, refl, sym, ap, ◌∙◌, subst, inl, inr, ⊎_elim}
 use Rattle.std.specs.Option.{ForSome}
-use Rattle.std.proofs.lemmas.Option.{none-some}
 use Rattle.std.specs.Prelude.{option_map}
 use Rattle.czi_image.specs.Holds.{IsSettled}
 use Rattle.czi_image.proofs.Settled.{whole_settled}
 use Rattle.czi_opening.specs.Answers.{AreRecovered, Leaves, Tells as TellsOf, cause_of}
 use Rattle.czi_opening.specs.Course.{OpensFrom, Stays}
 use Rattle.czi_opening.specs.Course as opening
+use Rattle.czi_opening.specs.Devices.{open_device}
 use Rattle.czi_opening.specs.Opens.{Cause, IsRefusedBy, Opens}
 use Rattle.czi_opening.specs.declared.error.OpenError.{OpenError}
 use Rattle.czi_opening.specs.declared.error.OpenError.TheVariants.{JournalVersion, BadJournal, ImageShort, ForeignJournal, Refused as RefusedOf, ImageDevice, JournalDevice, Memory as MemoryOf}
@@ -16,11 +16,12 @@ use Rattle.czi_rig.specs.declared.rig.Rig.{Ghosts}
 use Rattle.czi_rig.specs.declared.file.File.TheVariants.{Image, Journal}
 use Rattle.czi_rig.specs.Disk.{Disk, at_rest}
 use Rattle.czi_rig.specs.State.{State, known, seen_of}
+use Rattle.czi_rig.specs.Faults.{Device}
 use Rattle.czi_rig.specs.Moments.{Devices, devices, all_of}
 use Rattle.czi_rig.proofs.Known.{known_said, known_seen}
 use Rattle.czi_rig.proofs.Runs.{weaker}
-use Rattle.czi_session.specs.Course.{From, IsUnrefused, KeepsFiles, Nothing, Open, Opening, Stands}
-use Rattle.czi_session.specs.Ends.{IsKept, OpensSo, Refuses}
+use Rattle.czi_session.specs.Course.{From, IsUnrefused, KeepsFiles, OnceDurable, Open, Opening, Stands}
+use Rattle.czi_session.specs.Ends.{OpensSo, Refuses}
 use Rattle.czi_session.specs.declared.stop.OpenStop.{OpenStop}
 use Rattle.czi_session.specs.declared.stop.OpenStop.TheVariants.{Refused, Stopped}
 use Rattle.czi_engine.specs.Standing.{IsFresh, IsOpened, StandsOnRig}
@@ -53,18 +54,18 @@ module _ {D : Type 0} (rig : Ghosts D) (old new : D) (said : List ℕ) (b : Begu
   pub opens_from : ForSome (devices (rig.state old)) (λ all. opening.From rig old new (Stays all)) → From rig old new (Open the_machine b said)
   opens_from moments = from_open (moments h.now h.known)
 
-  either : (error : OpenError) → OpensFrom rig old new (Stays h.now) (Err error) → Nothing rig old new ⊎ From rig old new (Open the_machine b said)
+  either : (error : OpenError) → OpensFrom rig old new (Stays h.now) (Err error) → OnceDurable rig old new (Open the_machine b said) (open_device error)
   either (JournalVersion version) from = inr (from_open from)
   either (BadJournal place) from = inr (from_open from)
   either (ImageShort have need) from = inr (from_open from)
   either (ForeignJournal journal image) from = inr (from_open from)
   either (RefusedOf refusal) from = inr (from_open from)
-  either ImageDevice from = ⊎_elim (λ none. inl none) (λ some. inr (from_open some)) from
-  either JournalDevice from = ⊎_elim (λ none. inl none) (λ some. inr (from_open some)) from
+  either ImageDevice from = ⊎_elim (λ none. inl (none, tt)) (λ some. inr (from_open some)) from
+  either JournalDevice from = ⊎_elim (λ none. inl (none, tt)) (λ some. inr (from_open some)) from
   either MemoryOf from = inr (from_open from)
 
-  pub meanwhile : (error : OpenError) → ForSome (devices (rig.state old)) (λ all. OpensFrom rig old new (Stays all) (Err error)) → Nothing rig old new ⊎ From rig old new (Open the_machine b said)
-  meanwhile error moments = either error (moments h.now h.known)
+  pub meanwhile : (error : OpenError) (at : Option Device) → at ≡ open_device error → ForSome (devices (rig.state old)) (λ all. OpensFrom rig old new (Stays all) (Err error)) → OnceDurable rig old new (Open the_machine b said) at
+  meanwhile error at is moments = subst (OnceDurable rig old new (Open the_machine b said)) (sym is) (either error (moments h.now h.known))
 
 -- files that open aren't refused
 opened : (image journal : List ℕ) (b : Begun) → Begins image journal b → Opens image journal b.state.document
@@ -113,31 +114,20 @@ module _ {D : Type 0} (rig : Ghosts D) (old new : D) (all : Devices) where
   from_kept from = record {
     then = from.then;
     before = from.before;
-    after = weaker rig (λ i j o stays. stays.0) from.after;
-    always = λ i j o left. (from.always i j o left).0;
+    after = weaker rig (λ i j o stays. (stays.0, stays.1)) from.after;
+    always = λ i j o left. let stays = from.always i j o left in (stays.0, stays.1);
   }
 
-  stopped_kept : (error : OpenError) → OpensFrom rig old new (Stays all) (Err error) → Nothing rig old new ⊎ From rig old new (KeepsFiles the_machine all)
-  stopped_kept (JournalVersion version) from = inr (from_kept from)
-  stopped_kept (BadJournal place) from = inr (from_kept from)
-  stopped_kept (ImageShort have need) from = inr (from_kept from)
-  stopped_kept (ForeignJournal journal image) from = inr (from_kept from)
-  stopped_kept (RefusedOf refusal) from = inr (from_kept from)
-  stopped_kept ImageDevice from = ⊎_elim (λ none. inl none) (λ some. inr (from_kept some)) from
-  stopped_kept JournalDevice from = ⊎_elim (λ none. inl none) (λ some. inr (from_kept some)) from
-  stopped_kept MemoryOf from = inr (from_kept from)
-
-  refused_kept : (error : OpenError) (cause : Cause) → cause_of error ≡ Some cause → OpensFrom rig old new (Stays all) (Err error) → From rig old new (KeepsFiles the_machine all)
-  refused_kept (JournalVersion version) cause is from = from_kept from
-  refused_kept (BadJournal place) cause is from = from_kept from
-  refused_kept (ImageShort have need) cause is from = from_kept from
-  refused_kept (ForeignJournal journal image) cause is from = from_kept from
-  refused_kept (RefusedOf refusal) cause is from = from_kept from
-  refused_kept ImageDevice cause is from = absurd (none-some cause is)
-  refused_kept JournalDevice cause is from = absurd (none-some cause is)
-  refused_kept MemoryOf cause is from = absurd (none-some cause is)
+  either_kept : (error : OpenError) → OpensFrom rig old new (Stays all) (Err error) → OnceDurable rig old new (KeepsFiles the_machine all) (open_device error)
+  either_kept (JournalVersion version) from = inr (from_kept from)
+  either_kept (BadJournal place) from = inr (from_kept from)
+  either_kept (ImageShort have need) from = inr (from_kept from)
+  either_kept (ForeignJournal journal image) from = inr (from_kept from)
+  either_kept (RefusedOf refusal) from = inr (from_kept from)
+  either_kept ImageDevice from = ⊎_elim (λ none. inl (none, tt)) (λ some. inr (from_kept some)) from
+  either_kept JournalDevice from = ⊎_elim (λ none. inl (none, tt)) (λ some. inr (from_kept some)) from
+  either_kept MemoryOf from = inr (from_kept from)
 
   -- an opening that answers an error keeps the files
-  pub kept : (error : OpenError) (stop : OpenStop) → Tells error stop → OpensFrom rig old new (Stays all) (Err error) → IsKept rig old new the_machine all stop
-  kept error (Refused text) tells from = refused_kept error tells.0 tells.1 from
-  kept error (Stopped stop) tells from = stopped_kept error from
+  pub kept : (error : OpenError) (at : Option Device) → at ≡ open_device error → OpensFrom rig old new (Stays all) (Err error) → OnceDurable rig old new (KeepsFiles the_machine all) at
+  kept error at is from = subst (OnceDurable rig old new (KeepsFiles the_machine all)) (sym is) (either_kept error from)

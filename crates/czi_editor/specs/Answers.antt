@@ -1,22 +1,13 @@
--- How an editor stops.
+-- How an opening stops.
 use Rattle.std.specs.Prelude.{◌≡◌, Some}
-use Rattle.czi_engine.specs.declared.error.EditError.{EditError}
-use Rattle.czi_engine.specs.declared.error.EditError.TheVariants.{ImageDevice, JournalDevice}
 use Rattle.czi_opening.specs.Answers.{cause_of}
 use Rattle.czi_opening.specs.Opens.{Cause}
 use Rattle.czi_opening.specs.declared.error.OpenError.{OpenError}
 use Rattle.czi_opening.specs.declared.error.OpenError.TheVariants.{ImageDevice as ImageFails, JournalDevice as JournalFails}
-use Rattle.czi_session.specs.declared.stop.EditorStop.{EditorStop}
 use Rattle.czi_session.specs.declared.stop.EditorStop.TheVariants.{Image, Journal, Memory}
 use Rattle.czi_session.specs.declared.stop.OpenStop.{OpenStop}
 use Rattle.czi_session.specs.declared.stop.OpenStop.TheVariants.{Refused, Stopped}
 use Rattle.czi_editor.specs.Refusals.{cause_text}
-
--- at an edit's error: that of a device stops as a fault of that device, and any may stop for want of memory
-abbrev pub StopsAt : EditError → EditorStop → Type 0
-StopsAt error Image = error ≡ ImageDevice
-StopsAt error Journal = error ≡ JournalDevice
-StopsAt error Memory = Unit {0}
 
 -- an opening's error, as a session tells it: the line of its cause, or a device that failed, or want of memory
 abbrev pub Tells : OpenError → OpenStop → Type 0

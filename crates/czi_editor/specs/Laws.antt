@@ -15,9 +15,11 @@ use Rattle.czi_machine.specs.State.{State as MachineState}
 use Rattle.czi_report.specs.States.{list_of, info_of}
 use Rattle.czi_report.specs.Text.{items_text, number_line}
 use Rattle.czi_script.specs.Script.{Command, Remove, Listing, Info}
+use Rattle.czi_opening.proofs.Verdict.{one_cause}
 use Rattle.czi_engine.specs.declared.engine.Engine.{Engine}
 use Rattle.czi_engine.proofs.Keeping.{has_opens}
-use Rattle.czi_editor.specs.Machine.{AtState, Begun, IsReady, opens_in}
+use Rattle.czi_editor.specs.Machine.{AtState, Begun, IsReady, IsRefused, opens_in}
+use Rattle.czi_editor.specs.Refusals.{cause_text}
 use Rattle.czi_editor.specs.Replies.{edit_reply, no_line, ok_line, reply}
 
 -- whatever a crash leaves of the files of a state opens to it
@@ -70,3 +72,7 @@ unfolding list_of info_of items_text number_line
 each_says s (Remove dims) = edit_some (after_edit s (remove dims))
 each_says s Listing = zero-lt-suc _
 each_says s Info = zero-lt-suc _
+
+-- a pair is refused with one text
+pub refused_once_of : (image journal text other : List ℕ) → IsRefused image journal text → IsRefused image journal other → text ≡ other
+refused_once_of image journal text other first again = first.text_is ∙ ap cause_text (one_cause image journal first.cause again.cause first.refused again.refused) ∙ sym again.text_is

@@ -16,7 +16,7 @@ use Rattle.czi_engine.specs.Editing.{OpensIn}
 use Rattle.czi_engine.specs.Standing.{HasState, IsFresh, IsItself, StandsOnRig}
 use Rattle.czi_engine.specs.declared.engine.Engine.{Engine}
 use Rattle.czi_editor.specs.Refusals.{cause_text}
-use Rattle.czi_editor.specs.Replies.{after, reply}
+use Rattle.czi_editor.specs.Replies.{after, reply, still}
 
 -- a state of a run, and the bytes at its start
 pub record Begun : Type 0 where
@@ -49,7 +49,7 @@ abbrev pub opens_in : List ℕ → List ℕ → Begun → Type 0
 opens_in image journal b = OpensIn b.start image journal b.state
 
 -- The states, which pairs of files a run begins at and opens to, which are refused and with what line, which stand for what an
--- earlier pair stood for, what a command makes of a state, and its reply.
+-- earlier pair stood for, what a command makes of a state, its reply, and which commands change nothing.
 abbrev pub the_machine : Model
 the_machine = record {
   Document = Begun;
@@ -60,6 +60,7 @@ the_machine = record {
   void = λ journal. slot_of journal ≡ Void;
   after = λ b c. record { start = b.start; state = after b.state c };
   reply = λ b c. reply b.state c;
+  still = λ b c. still b.state c;
 }
 
 -- an engine stands on an image and a journal at a state

@@ -1,5 +1,5 @@
 -- What a command makes of the machine's state, and its reply.
-use Rattle.std.specs.Prelude.{ℕ, List, ◌++◌, codes, Result, Ok, Err}
+use Rattle.std.specs.Prelude.{◌≡◌, ℕ, List, ◌++◌, codes, Result, Ok, Err}
 use Rattle.std.specs.Fmt.{decimal}
 use Rattle.czi_engine.specs.Editing.{state_after}
 use Rattle.czi_machine.specs.Edit.{Refusal, too_long, no_key, duplicate, too_many, nothing, full, remove}
@@ -37,3 +37,9 @@ abbrev pub reply : State → Command → List ℕ
 reply s (Remove dims) = edit_reply (after_edit s (remove dims))
 reply s Listing = list_of s.document s.layout
 reply s Info = info_of s.document s.layout
+
+-- a query, or an edit that the machine refuses
+abbrev pub still : State → Command → Type 0
+still s (Remove dims) = (refusal : Refusal) × (after_edit s (remove dims) ≡ Err refusal)
+still s Listing = Unit {0}
+still s Info = Unit {0}

@@ -1,20 +1,21 @@
 //! The engine as an editor of a session.
 
-ghost use Rattle.std.specs.Prelude.{◌≡◌, ◌++◌, List, ℕ, IfErr, OnOk};
+ghost use Rattle.std.specs.Prelude.{◌≡◌, ◌++◌, List, ℕ, None, Err, IfErr, OnOk};
 ghost use Rattle.czi_doc.specs.View.{dims_of};
 ghost use Rattle.czi_format.specs.Live.{Live};
 ghost use Rattle.czi_image.specs.Holds.{Holds};
 ghost use Rattle.czi_machine.specs.Edit.{remove};
 ghost use Rattle.czi_machine.specs.Machine.{after_edit};
 ghost use Rattle.czi_report.specs.Text.{info_text, list_text};
+ghost use Rattle.czi_rig.specs.Faults.{Faults, fault_at};
 ghost use Rattle.czi_rig.specs.Passes.{GoesOn};
 ghost use Rattle.czi_rig.specs.Moments.{Throughout};
 ghost use Rattle.czi_script.specs.Script.{Remove};
-ghost use Rattle.czi_session.specs.Causes.{EditorStops};
+ghost use Rattle.czi_session.specs.Stops.{editor_device};
 ghost use Rattle.czi_session.specs.Course.{EitherSide, Stands};
-ghost use Rattle.czi_editor.specs.Laws.{each_says, opens_whatever, stays_ready_of};
+ghost use Rattle.czi_editor.specs.Laws.{each_says, opens_whatever, refused_once_of, stays_ready_of};
 ghost use Rattle.czi_editor.specs.Machine.{AtState, Begun, IsReady, the_machine};
-ghost use Rattle.czi_editor.specs.Replies.{edit_reply};
+ghost use Rattle.czi_editor.specs.Replies.{edit_reply, still};
 
 use crate::refusal::stop_of;
 use crate::reply::{push_no, push_ok};
@@ -35,7 +36,7 @@ pub struct ImageEditor {
     engine: Engine,
 }
 
-/// Removes a subblock, and appends the reply. Memory for the reply is taken first.
+/// Removes a subblock, and appends the reply. Memory for the reply is taken first, so that an edit that was done is told.
 fn remove<R: Rig>(
     engine: &mut Engine,
     alloc: Global,
@@ -54,7 +55,11 @@ fn remove<R: Rig>(
     ensures ready { OnOk result (IsReady engine.new (R.state rig.new)) }
     ensures said { (R.state rig.new).said ≡ (R.state rig.old).said }
     ensures goes_on { GoesOn (R.state rig.old) (R.state rig.new) }
-    ensures cause { IfErr result (λ stop. EditorStops stop (R.state rig.old) (R.state rig.new)) }
+    // What the machine refuses is refused before any device is asked, or memory is wanting.
+    ensures still { (said : List ℕ) (b : Begun) → Stands the_machine (AtState engine.old) (R.state rig.old) said b → still b.state (Remove (dims_of dims.now)) →
+        (fault_at editor_device result ≡ None) × (rig.new ≡ rig.old) }
+    ensures starved { result ≡ Err EditorStop.Memory → rig.new ≡ rig.old }
+    ensures cause { Faults (fault_at editor_device result) (R.state rig.old) (R.state rig.new) }
 {
     let Ok(()) = reply.reserve(LONGEST_REPLY) else {
         return Err(EditorStop::Memory);
@@ -62,7 +67,7 @@ fn remove<R: Rig>(
     match engine.remove(alloc, rig, dims) {
         Ok(number) => match push_ok(reply, number) {
             Ok(()) => Ok(()),
-            Err(AllocError) => Err(EditorStop::Memory),
+            Err(AllocError) => unreachable!(),
         },
         Err(error) => push_no(reply, &error),
     }
@@ -100,6 +105,8 @@ impl Editor for ImageEditor {
     ghost stays_ready = { λ editor old new ready files goes. stays_ready_of editor.engine old new ready files goes };
 
     ghost opens_now = { λ editor image journal b. opens_whatever editor.engine image journal b };
+
+    ghost refused_once = { λ image journal text other refused again. refused_once_of image journal text other refused again };
 
     ghost says_something = { λ b c. each_says b.state c };
 

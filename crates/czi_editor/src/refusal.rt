@@ -5,7 +5,9 @@ ghost use Rattle.czi_format.specs.Bytes.{stored_order};
 ghost use Rattle.czi_format.specs.Refusals.{overlap, too_many};
 ghost use Rattle.czi_num.specs.Span.{span_of};
 ghost use Rattle.czi_opening.specs.Answers.{cause_of, refusal_of};
+ghost use Rattle.czi_opening.specs.Devices.{open_device};
 ghost use Rattle.czi_opening.specs.Opens.{Cause, of_another};
+ghost use Rattle.czi_session.specs.Stops as session;
 ghost use Rattle.czi_editor.specs.Answers.{Tells};
 ghost use Rattle.czi_editor.specs.Refusals.{cause_text, guid_text, refusal_text};
 
@@ -71,7 +73,8 @@ fn push_foreign(text: &mut Vec<u8>, journal: &[u8; 16], image: &[u8; 16]) -> Res
 /// What an opening's error is to a session.
 #[tactic(auto, unfolding(crate::specs::Refusals::cause_text))]
 pub(crate) fn stop_of(alloc: Global, error: &OpenError) -> OpenStop
-    ensures { Tells error.now result }
+    ensures told { Tells error.now result }
+    ensures device { session.open_device result ≡ open_device error.now }
 {
     let mut text = Vec::new(alloc);
     let pushed = match *error {

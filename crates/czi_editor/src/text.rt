@@ -1,6 +1,6 @@
 //! Pieces of text.
 
-ghost use Rattle.std.specs.Prelude.{◌≡◌, ◌++◌, OnOk, codes};
+ghost use Rattle.std.specs.Prelude.{◌≡◌, ◌≤◌, ◌+◌, ◌++◌, IsOk, OnOk, codes, length, vec_len, vec_capacity};
 ghost use Rattle.std.specs.Fmt.{decimal, signed_decimal};
 ghost use Rattle.czi_num.specs.Span.{span_of};
 ghost use Rattle.czi_report.specs.Text.{line_feed, number_line, span_text};
@@ -28,7 +28,10 @@ pub(crate) fn push_line(text: &mut Vec<u8>, label: &[u8], place: i64) -> Result<
 
 /// Appends a label and a number.
 pub(crate) fn push_number(text: &mut Vec<u8>, label: &[u8], number: u64) -> Result<(), AllocError>
-    ensures { OnOk result (text.new.items ≡ text.old.items ++ (label.now ++ decimal number)) }
+    ensures items { OnOk result (text.new.items ≡ text.old.items ++ (label.now ++ decimal number)) }
+    ensures len { OnOk result (vec_len text.new ≤ vec_len text.old + length label.now + 20) }
+    ensures room { vec_len text.old + length label.now + 20 ≤ vec_capacity text.old → IsOk result }
+    ensures capacity { vec_capacity text.old ≤ vec_capacity text.new }
 {
     text.extend_from_slice(label)?;
     text.extend_from_slice(Buffer::new().format(number).as_bytes())
@@ -41,7 +44,8 @@ pub(crate) fn push_number_line(
     label: &[u8],
     number: u64,
 ) -> Result<(), AllocError>
-    ensures { OnOk result (text.new.items ≡ text.old.items ++ number_line label.now number) }
+    ensures items { OnOk result (text.new.items ≡ text.old.items ++ number_line label.now number) }
+    ensures room { vec_len text.old + length label.now + 21 ≤ vec_capacity text.old → IsOk result }
 {
     push_number(text, label, number)?;
     text.extend_from_slice(b"\n")

@@ -1,5 +1,6 @@
 -- A pair of files opens to one document, or it is refused.
 use Rattle.std.proofs.Common.{◌≡◌, ◌⊎◌, ⊎_elim, inl, inr, ℕ, List, [], ◌∷◌, length, take, drop, get_or, refl, sym, ◌∙◌, ap, subst, arith}
+use Rattle.std.proofs.lemmas.Grind.{common_steps}
 use Rattle.std.proofs.lemmas.Bool.{cases_eq, cases_lt}
 use Rattle.czi_format.specs.Document.{Document}
 use Rattle.czi_format.specs.Live.{document, update_pending}
@@ -78,6 +79,10 @@ not_both image journal d (of_another record_guid image_guid) o c =
 not_both image journal d (unread refusal) o c =
     let same = stands_one (slot_of journal) image o.bytes c.bytes o.recovered c.recovered in
     never_both c.bytes refusal d c.refused (subst (λ (x : List ℕ). Shows x d) same o.shows) (ap update_pending (sym same) ∙ o.idle)
+
+-- they are refused for one cause
+pub one_cause : (image journal : List ℕ) (c d : Cause) → IsRefusedBy image journal c → IsRefusedBy image journal d → c ≡ d
+one_cause image journal c d first second = grind (arith, common_steps, first, second)
 
 pub indexed : (image journal bytes : List ℕ) (index : Index) → Recovered image journal bytes → Indexes bytes index → (d : Document) × Opens image journal d
 indexed image journal bytes index r x = (document bytes x.live, record { bytes = bytes; recovered = r; shows = (x.live, x.reaches, refl); idle = x.idle })

@@ -1,13 +1,16 @@
-use Rattle.std.proofs.Common.{◌≡◌, ◌++◌, ℕ, List, Err, ap, ◌∙◌}
+use Rattle.std.proofs.Common.{◌≡◌, ◌++◌, ℕ, List, Err, ap, sym, ◌∙◌}
+use Rattle.std.specs.Prelude.{is_some}
 use Rattle.std.proofs.lemmas.Result.{on_ok_weaker}
 use Rattle.czi_doc.specs.View.{dims_of}
 use Rattle.czi_machine.specs.Edit.{Refusal, remove}
 use Rattle.czi_machine.specs.Machine.{after_edit}
 use Rattle.czi_rig.specs.declared.file.File.TheVariants.{Image}
+use Rattle.czi_rig.specs.Faults.{fault_at}
 use Rattle.czi_rig.proofs.Known.{known_seen}
+use Rattle.czi_session.specs.Stops.{editor_device}
 use Rattle.czi_engine.specs.Editing.{refusal_of}
 use Rattle.czi_editor.specs.Replies.{no_line, ok_line}
-use Rattle.czi_editor.proofs.Editing.{accepted_stands, if_some, no_device, no_is, ok_is, refused_ready, refused_stands}
+use Rattle.czi_editor.proofs.Editing.{accepted_stands, if_some, no_device, no_is, ok_is, refused_ready, refused_stands, same_all, told_no_device}
 use Rattle.czi_editor.proofs.editor.remove.Goals as goal
 
 pub returns-in-Ok-push_ok-clause-replied : goal.returns-in-Ok-push_ok-clause-replied
@@ -15,7 +18,7 @@ returns-in-Ok-push_ok-clause-replied g c said b h =
     let dims = dims_of c.args.dims.now in
     let n = c.in-Ok-remove.number in
     let a = c.in-Ok-remove.ensures.accepted h.now.image.seen (known_seen (g.R.Rig.state c.args.rig.now) Image h.now h.known) b.start h.stands.live b.state h.stands.has in
-    c.in-Ok-push_ok.ensures ∙ (ap (λ (z : List ℕ). z ++ ok_line n) c.in-Ok.ensures.items ∙ ap (λ (z : List ℕ). c.args.reply.now.items ++ z) (ok_is b.state a.state dims n a.goes a.numbered))
+    c.in-Ok-push_ok.ensures.items ∙ (ap (λ (z : List ℕ). z ++ ok_line n) c.in-Ok.ensures.items ∙ ap (λ (z : List ℕ). c.args.reply.now.items ++ z) (ok_is b.state a.state dims n a.goes a.numbered))
 
 pub returns-in-Ok-push_ok-clause-stands : goal.returns-in-Ok-push_ok-clause-stands
 returns-in-Ok-push_ok-clause-stands g c said b h =
@@ -37,11 +40,28 @@ returns-in-Err-clause-stands g c = on_ok_weaker c.push_no.result (λ r said b h.
     let dims = dims_of c.args.dims.now in
     let refused = if_some (refusal_of c.in-Err.error) r.0 (λ (x : Refusal). after_edit b.state (remove dims) ≡ Err x) r.1
     (c.in-Err.ensures.refused h.now.image.seen (known_seen old Image h.now h.known) b.start h.stands.live b.state h.stands.has) in
-    let kept = c.in-Err.ensures.untouched (no_device c.in-Err.error r.0 r.1) in
-    refused_stands c.args.engine.now c.remove.new.self old (g.R.Rig.state c.remove.new.rig) said b dims h r.0 refused kept.1 kept.0.same) c.push_no.ensures.said
+    let kept = c.in-Err.ensures.quiet (no_device c.in-Err.error r.0 r.1) in
+    refused_stands c.args.engine.now c.remove.new.self old (g.R.Rig.state c.remove.new.rig) said b dims h r.0 refused kept.1 (same_all g.R.Rig kept.0)) c.push_no.ensures.said
 
 pub returns-in-Err-clause-ready : goal.returns-in-Err-clause-ready
 returns-in-Err-clause-ready g c = on_ok_weaker c.push_no.result (λ r.
-    let kept = c.in-Err.ensures.untouched (no_device c.in-Err.error r.0 r.1) in
+    let kept = c.in-Err.ensures.quiet (no_device c.in-Err.error r.0 r.1) in
+    let same = same_all g.R.Rig kept.0 in
     refused_ready c.args.engine.now c.remove.new.self (g.R.Rig.state c.args.rig.now) (g.R.Rig.state c.remove.new.rig) c.requires.ready kept.1
-    (record { image = kept.0.same.image; journal = kept.0.same.journal }) c.in-Err.ensures.goes_on) c.push_no.ensures.said
+    (record { image = same.image; journal = same.journal }) c.in-Err.ensures.goes_on) c.push_no.ensures.said
+
+pub returns-in-Ok-push_ok-clause-still : goal.returns-in-Ok-push_ok-clause-still
+returns-in-Ok-push_ok-clause-still g c said b h refused =
+    absurd (c.in-Ok-remove.ensures.refuses h.now.image.seen (known_seen (g.R.Rig.state c.args.rig.now) Image h.now h.known) b.start h.stands.live b.state h.stands.has refused.0 refused.1)
+
+pub returns-in-Err-clause-still : goal.returns-in-Err-clause-still
+returns-in-Err-clause-still g c said b h refused =
+    let told = c.in-Err.ensures.refuses h.now.image.seen (known_seen (g.R.Rig.state c.args.rig.now) Image h.now h.known) b.start h.stands.live b.state h.stands.has refused.0 refused.1 in
+    let none = told_no_device c.in-Err.error refused.0 told in
+    (c.push_no.ensures.device ∙ none, (c.in-Err.ensures.quiet (ap is_some none)).0)
+
+pub returns-in-Err-clause-starved : goal.returns-in-Err-clause-starved
+returns-in-Err-clause-starved g c = λ memory. (c.in-Err.ensures.quiet (ap is_some (sym c.push_no.ensures.device ∙ ap (fault_at editor_device) memory))).0
+
+pub returns-in-Err-clause-cause : goal.returns-in-Err-clause-cause
+returns-in-Err-clause-cause g c = rw c.push_no.ensures.device c.in-Err.ensures.cause

@@ -6,4 +6,4 @@ pub returns : goal.returns
 unfolding refusal_text
 returns c =
     let place : to_z w64 (of_z w64 c.args.place) ≡ c.args.place = search rules in
-    rw (c.in_ok-extend_from_slice.ensures.items, c.in_ok-push_number.ensures, c.in_ok-push_place.ensures, place) (simp append_assoc)
+    rw (c.in_ok-extend_from_slice.ensures.items, c.in_ok-push_number.ensures.items, c.in_ok-push_place.ensures, place) (simp append_assoc)

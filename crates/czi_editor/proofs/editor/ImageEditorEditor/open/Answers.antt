@@ -22,8 +22,8 @@ returns-in-Err-clause-opens g c said b h =
     let image = h.now.image.seen in
     let journal = h.now.journal.seen in
     let told = c.in-Err.ensures.refused image (known_seen old Image h.now h.known) journal (known_seen old Journal h.now h.known) in (
-      opens_so c.in-Err.error c.stop_of.result new image journal b c.stop_of.ensures told h.begins,
-      meanwhile g.R.Rig c.args.rig.now c.open.new.rig said b h c.in-Err.error c.in-Err.ensures.meanwhile,
+      opens_so c.in-Err.error c.stop_of.result new image journal b c.stop_of.ensures.told told h.begins,
+      meanwhile g.R.Rig c.args.rig.now c.open.new.rig said b h c.in-Err.error _ c.stop_of.ensures.device c.in-Err.ensures.meanwhile,
     )
 
 pub returns-in-Err-clause-refused : goal.returns-in-Err-clause-refused
@@ -31,7 +31,7 @@ returns-in-Err-clause-refused g c all is =
     let old = g.R.Rig.state c.args.rig.now in
     let image = all.image.seen in
     let journal = all.journal.seen in
-    refuses c.in-Err.error c.stop_of.result (g.R.Rig.state c.open.new.rig) image journal c.stop_of.ensures (c.in-Err.ensures.refused image (known_seen old Image all is) journal (known_seen old Journal all is))
+    refuses c.in-Err.error c.stop_of.result (g.R.Rig.state c.open.new.rig) image journal c.stop_of.ensures.told (c.in-Err.ensures.refused image (known_seen old Image all is) journal (known_seen old Journal all is))
 
 pub returns-in-Err-clause-kept : goal.returns-in-Err-clause-kept
-returns-in-Err-clause-kept g c all text is refused = kept g.R.Rig c.args.rig.now c.open.new.rig all c.in-Err.error c.stop_of.result c.stop_of.ensures (c.in-Err.ensures.meanwhile all is)
+returns-in-Err-clause-kept g c all text is refused = kept g.R.Rig c.args.rig.now c.open.new.rig all c.in-Err.error _ c.stop_of.ensures.device (c.in-Err.ensures.meanwhile all is)

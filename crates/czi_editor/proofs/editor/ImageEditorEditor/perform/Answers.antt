@@ -11,6 +11,9 @@ returns-in-Remove-clause-moments g c = rw c.in-Remove.is c.remove.ensures.moment
 pub returns-in-Remove-clause-ok : goal.returns-in-Remove-clause-ok
 returns-in-Remove-clause-ok g c = rw c.in-Remove.is (both_ok c.remove.result (λ replied stands said b h. (replied said b h, stands said b h)) c.remove.ensures.replied c.remove.ensures.stands)
 
+pub returns-in-Remove-clause-still : goal.returns-in-Remove-clause-still
+returns-in-Remove-clause-still g c = rw c.in-Remove.is c.remove.ensures.still
+
 pub returns-in-List-clause-ok : goal.returns-in-List-clause-ok
 returns-in-List-clause-ok g c = rw c.in-List.is (on_ok_weaker c.push_list.result (λ says said b h. (
   says h.stands.live h.stands.has.holds ∙ ap (λ (z : List ℕ). c.args.reply.now.items ++ z) (lists_state h.now.image.seen h.stands.live b.state h.stands.has.stands.lies),
