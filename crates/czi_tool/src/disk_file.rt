@@ -1,6 +1,6 @@
 // One file of the system, by its path.
-ghost use Rattle.std.specs.Prelude.{◌≡◌, ◌≤◌, ◌^◌, OnErr, OnOk, IfOk, IsOk};
-ghost use Rattle.czi_rig.specs.Passes.{Rose};
+ghost use Rattle.std.specs.Prelude.{◌≡◌, ◌≤◌, ◌^◌, OnOk, IfOk, IsOk, is_err};
+ghost use Rattle.czi_rig.specs.Faults.{Counted};
 
 use czi_rig::Failed;
 use std::fs::{File, OpenOptions};
@@ -34,9 +34,8 @@ pub(crate) struct DiskFile {
 pub(crate) fn counted<T: Drop>(faults: &mut u64, answer: io::Result<T>) -> Result<T, Failed>
     ensures value { IfOk result (λ value. answer ≡ Ok value) }
     ensures failed { IsOk answer → IsOk result }
-    ensures kept { OnOk result (faults.new ≡ faults.old) }
     ensures grows { faults.old ≤ faults.new }
-    ensures cause { OnErr result (Rose faults.old faults.new) }
+    ensures cause { Counted (is_err result) faults.old faults.new }
 {
     match answer {
         Ok(value) => Ok(value),
@@ -198,9 +197,8 @@ impl DiskFile {
     /// The length in bytes, 0 of a missing file. A longer one than 2^62 is a fault.
     pub(crate) fn len(&mut self, rt: &HostRuntime) -> Result<u64, Failed>
         ensures bound { IfOk result (λ n. n ≤ 2 ^ 62) }
-        ensures kept { OnOk result (self.new.faults ≡ self.old.faults) }
         ensures grows { self.old.faults ≤ self.new.faults }
-        ensures cause { OnErr result (Rose self.old.faults self.new.faults) }
+        ensures cause { Counted (is_err result) self.old.faults self.new.faults }
     {
         let answer = self.measure(rt);
         counted(&mut self.faults, answer)
@@ -213,9 +211,8 @@ impl DiskFile {
         at: u64,
         into: &mut [u8],
     ) -> Result<(), Failed>
-        ensures kept { OnOk result (self.new.faults ≡ self.old.faults) }
         ensures grows { self.old.faults ≤ self.new.faults }
-        ensures cause { OnErr result (Rose self.old.faults self.new.faults) }
+        ensures cause { Counted (is_err result) self.old.faults self.new.faults }
     {
         let answer = self.fetch(rt, at, into);
         counted(&mut self.faults, answer)
@@ -223,9 +220,8 @@ impl DiskFile {
 
     /// Writes all of the bytes, into a file that is made where it is missing.
     pub(crate) fn write_at(&mut self, rt: &HostRuntime, at: u64, bytes: &[u8]) -> Result<(), Failed>
-        ensures kept { OnOk result (self.new.faults ≡ self.old.faults) }
         ensures grows { self.old.faults ≤ self.new.faults }
-        ensures cause { OnErr result (Rose self.old.faults self.new.faults) }
+        ensures cause { Counted (is_err result) self.old.faults self.new.faults }
     {
         let answer = self.put(rt, at, bytes);
         counted(&mut self.faults, answer)
@@ -233,9 +229,8 @@ impl DiskFile {
 
     /// Sets the length, of a file that is made where it is missing.
     pub(crate) fn cut(&mut self, rt: &HostRuntime, len: u64) -> Result<(), Failed>
-        ensures kept { OnOk result (self.new.faults ≡ self.old.faults) }
         ensures grows { self.old.faults ≤ self.new.faults }
-        ensures cause { OnErr result (Rose self.old.faults self.new.faults) }
+        ensures cause { Counted (is_err result) self.old.faults self.new.faults }
     {
         let answer = self.shorten(rt, len);
         counted(&mut self.faults, answer)
@@ -243,9 +238,8 @@ impl DiskFile {
 
     /// Syncs the file with its length, and the folder where it was made and that failed. A missing file needs none.
     pub(crate) fn sync(&mut self, rt: &HostRuntime) -> Result<(), Failed>
-        ensures kept { OnOk result (self.new.faults ≡ self.old.faults) }
         ensures grows { self.old.faults ≤ self.new.faults }
-        ensures cause { OnErr result (Rose self.old.faults self.new.faults) }
+        ensures cause { Counted (is_err result) self.old.faults self.new.faults }
     {
         let answer = self.settle(rt);
         counted(&mut self.faults, answer)
