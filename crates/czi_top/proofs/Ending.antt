@@ -1,9 +1,14 @@
 -- How a run of the program ends.
-use Rattle.std.proofs.Common.{◌≡◌, ◌⊎◌, inl, inr, ⊎_elim, ℕ, ap, ◌∙◌, arith}
+use Rattle.std.proofs.Common.{◌≡◌, ◌⊎◌, inl, inr, ⊎_elim, ℕ, List, ◌++◌, take, Some, refl, sym, ap, ◌∙◌, subst, arith}
+use Rattle.std.specs.Prelude.{option_map}
 use Rattle.czi_rig.specs.State.{State}
+use Rattle.czi_rig.specs.Faults.{Faults, FaultsWith}
 use Rattle.czi_session.specs.declared.stop.Ended.{Ended}
-use Rattle.czi_session.specs.Ends.{Answers, Quiet}
-use Rattle.czi_top.specs.Run.{code_of}
+use Rattle.czi_session.specs.declared.stop.Ended.TheVariants.{Done, Refused, Stopped}
+use Rattle.czi_session.specs.declared.stop.Stop.TheVariants.{Script, Image, Journal, Output, Input, Memory, TooLong}
+use Rattle.czi_session.specs.Ends.{Answers, Quiet, SaysRefusal}
+use Rattle.czi_session.specs.Stops.{end_device}
+use Rattle.czi_top.specs.Run.{SaysLine, SaysUsage, code_of, status_device}
 
 -- no fault came, also none of an input that isn't read
 pub quiet_alone : {old new : State} {before now : ℕ} → Quiet old new before now → Quiet old new 0 0
@@ -12,3 +17,37 @@ quiet_alone q = record { image = q.image; journal = q.journal; output = q.output
 -- the status of the wanted end, or of a want of memory
 pub answers_code : (wanted ended : Ended) (status : ℕ) → status ≡ code_of ended → Answers wanted ended → (status ≡ code_of wanted) ⊎ (status ≡ 8)
 answers_code wanted ended status is answers = ⊎_elim (λ e. inl (is ∙ ap (λ x. code_of x) e)) (λ e. inr (is ∙ ap (λ x. code_of x) e)) answers
+
+-- the status tells the device
+device_of_code : (ended : Ended) → end_device ended ≡ status_device (code_of ended)
+device_of_code Done = refl
+device_of_code Refused = refl
+device_of_code (Stopped (Script number kind)) = refl
+device_of_code (Stopped Image) = refl
+device_of_code (Stopped Journal) = refl
+device_of_code (Stopped Output) = refl
+device_of_code (Stopped Input) = refl
+device_of_code (Stopped Memory) = refl
+device_of_code (Stopped TooLong) = refl
+
+pub told_device : (ended : Ended) (status : ℕ) → status ≡ code_of ended → end_device ended ≡ status_device status
+told_device ended status is = device_of_code ended ∙ ap (λ (n : ℕ). status_device n) (sym is)
+
+-- the usage line has nothing to do with the input
+pub usage_with : (status : ℕ) (old new : State) (count : ℕ) → SaysUsage old new status → Faults (status_device status) old new → FaultsWith (status_device status) old new count count
+usage_with status old new count said cause = ⊎_elim (λ one. at 1 one.0 (λ f. record { rig = f; input_count = refl })) (λ six. at 6 six.0 (λ f. record { rig = f; input_count = refl })) said
+  where
+    at : (n : ℕ) → status ≡ n → (Faults (status_device n) old new → FaultsWith (status_device n) old new count count) → FaultsWith (status_device status) old new count count
+    at n is make = subst (λ (k : ℕ). FaultsWith (status_device k) old new count count) (sym is) (make (subst (λ (k : ℕ). Faults (status_device k) old new) is cause))
+
+-- what is said of a refusal, by the status
+pub says_line : (ended : Ended) (status : ℕ) (old new : State) (before text : List ℕ) → status ≡ code_of ended → old.said ≡ Some before → SaysRefusal new.said before text ended → SaysLine text old new status
+says_line Done status old new before text is was says = absurd says
+says_line Refused status old new before text is was says = inl (is, says ∙ sym (ap (option_map (λ (s : List ℕ). s ++ text)) was))
+says_line (Stopped (Script number kind)) status old new before text is was says = absurd says
+says_line (Stopped Image) status old new before text is was says = inr (inr (inl is, says ∙ sym was))
+says_line (Stopped Journal) status old new before text is was says = inr (inr (inr (inl is), says ∙ sym was))
+says_line (Stopped Output) status old new before text is was says = inr (inl (is, says.0, says.1, says.2 ∙ sym (ap (option_map (λ (s : List ℕ). s ++ take says.0 text)) was)))
+says_line (Stopped Input) status old new before text is was says = absurd says
+says_line (Stopped Memory) status old new before text is was says = inr (inr (inr (inr is), says ∙ sym was))
+says_line (Stopped TooLong) status old new before text is was says = absurd says

@@ -1,12 +1,13 @@
 -- What a run of the program does.
-use Rattle.std.specs.Prelude.{◌≡◌, ◌⊎◌, ℕ, ◌^◌, ◌≤◌, List, [], ◌∷◌, ◌++◌, length, take, codes, Option, Some, option_map}
+use Rattle.std.specs.Prelude.{◌≡◌, ◌≢◌, ◌⊎◌, ◌==◌, ℕ, ◌^◌, ◌≤◌, List, [], ◌∷◌, ◌++◌, length, take, codes, Option, None, Some, option_map, if◌then◌else◌}
 use Rattle.czi_rig.specs.State.{State}
+use Rattle.czi_rig.specs.declared.rig.Rig.{Ghosts}
+use Rattle.czi_rig.specs.Faults.{Device, image, journal, output, input}
 use Rattle.czi_rig.specs.Moments.{Devices, devices}
-use Rattle.czi_rig.specs.Passes.{Rose}
 use Rattle.czi_script.specs.Script.{Command as Step, Listing, Info, End, Done as Finished, Reads}
-use Rattle.czi_session.specs.Causes.{EndsAlone}
-use Rattle.czi_session.specs.Course.{Opening}
-use Rattle.czi_session.specs.Ends.{EndsSo, OneEnds, Takes, most_of}
+use Rattle.czi_session.specs.Course.{OnlyReads, Opening}
+use Rattle.czi_session.specs.Ends.{EndsSo, OneEnds, OpeningEnds, Takes, most_of}
+use Rattle.czi_session.specs.Stops.{EndsAlone}
 use Rattle.czi_session.specs.declared.stop.Ended.{Ended}
 use Rattle.czi_session.specs.declared.stop.Ended.TheVariants.{Done, Refused, Stopped}
 use Rattle.czi_session.specs.declared.stop.Stop.TheVariants.{Script, Image, Journal, Output, Input, Memory, TooLong}
@@ -85,9 +86,30 @@ Says bytes old new = new.said ≡ option_map (λ (said : List ℕ). said ++ byte
 abbrev pub SaysUsage : State → State → ℕ → Type 0
 SaysUsage old new status = ((status ≡ 1) × Says usage old new) ⊎ ((status ≡ 6) × (n : ℕ) × (n ≤ length usage) × Says (take n usage) old new)
 
--- a fault's status comes only where its count rose
-pub record HasCauses (old new : State) (before now : ℕ) (status : ℕ) : Type 0 where
-  pub image : status ≡ 4 → Rose old.image_faults new.image_faults
-  pub journal : status ≡ 5 → Rose old.journal_faults new.journal_faults
-  pub output : status ≡ 6 → Rose old.output_faults new.output_faults
-  pub input : status ≡ 7 → Rose before now
+-- The line was said whole, or a front of it where the output failed, or nothing where a file failed or memory was wanting.
+abbrev pub SaysLine : List ℕ → State → State → ℕ → Type 0
+SaysLine text old new status = ((status ≡ 2) × Says text old new) ⊎ ((status ≡ 6) × (n : ℕ) × (n ≤ length text) × Says (take n text) old new)
+    ⊎ (((status ≡ 4) ⊎ (status ≡ 5) ⊎ (status ≡ 8)) × (new.said ≡ old.said))
+
+-- the device that failed, by the status
+abbrev pub status_device : ℕ → Option Device
+status_device status =
+    if status == 4 then Some image
+    else if status == 5 then Some journal
+    else if status == 6 then Some output
+    else if status == 7 then Some input
+    else None
+
+-- `list` and `info` open the files, and then leave them alone until the reply is said; or the files didn't open.
+abbrev pub LooksOnly : {D : Type 0} → Ghosts D → D → D → Step → List ℕ → Begun → Ended → Type 0
+LooksOnly rig old new c said b ended = OpeningEnds (rig.state new) said ended
+    ⊎ (OnlyReads rig old new the_machine said (the_machine.reply b c) b (the_machine.after b c) × (ended ≢ Stopped Image))
+
+abbrev pub Looks : {D : Type 0} → Ghosts D → D → D → Command → List ℕ → Begun → Ended → Type 0
+Looks rig old new list said b ended = LooksOnly rig old new Listing said b ended
+Looks rig old new info said b ended = LooksOnly rig old new Info said b ended
+Looks rig old new edit said b ended = Unit {0}
+
+-- the same, told by the status
+abbrev pub LooksWith : {D : Type 0} → Ghosts D → D → D → Command → List ℕ → Begun → ℕ → Type 0
+LooksWith rig old new command said b status = (ended : Ended) × (status ≡ code_of ended) × Looks rig old new command said b ended

@@ -5,17 +5,18 @@ ghost use Rattle.std.specs.Option.{ForSome};
 ghost use Rattle.czi_journal.specs.Journals.{slot_of};
 ghost use Rattle.czi_links.specs.Reading.{Void};
 ghost use Rattle.czi_rig.specs.State.{SameFiles, seen_of};
-ghost use Rattle.czi_rig.specs.Passes.{GoesOn, Rose};
+ghost use Rattle.czi_rig.specs.Faults.{Faults, FaultsWith};
+ghost use Rattle.czi_rig.specs.Passes.{GoesOn};
 ghost use Rattle.czi_rig.specs.Moments.{devices, Throughout, LeavesSaying};
 ghost use Rattle.czi_script.specs.Script.{Command as Step, End};
-ghost use Rattle.czi_session.specs.Causes.{EndsWithCause};
-ghost use Rattle.czi_session.specs.Course.{From, KeepsRefused, Nothing, Opening, OpensToPrefix};
-ghost use Rattle.czi_session.specs.Ends.{Answers, Quiet, RefusedSo};
+ghost use Rattle.czi_session.specs.Course.{KeepsRefused, OnceDurable, Opening, OpensToPrefix};
+ghost use Rattle.czi_session.specs.Ends.{Answers, Quiet, RefusedEnds, RefusedSo};
+ghost use Rattle.czi_session.specs.Stops.{end_device};
 ghost use Rattle.czi_session.specs.Text.{last_text};
 ghost use Rattle.czi_editor.specs.Machine.{Begun, the_machine};
 ghost use Rattle.czi_top.specs.Words.{command_of};
 ghost use Rattle.czi_top.specs.View.{command_view};
-ghost use Rattle.czi_top.specs.Run.{Asks, EndsAt, EndsWell, EndsWith, HasCauses, IsAlone, RefusedWith, SaysUsage, TakesFor, Took, code_of, usage};
+ghost use Rattle.czi_top.specs.Run.{Asks, EndsAt, EndsWell, EndsWith, IsAlone, Looks, LooksWith, RefusedWith, SaysLine, SaysUsage, TakesFor, Took, code_of, status_device, usage};
 
 use crate::words::{Command, command_of};
 use czi_editor::ImageEditor;
@@ -32,7 +33,7 @@ fn say_usage<R: Rig>(rig: &mut R) -> u8
     ensures files { SameFiles (R.state rig.old) (R.state rig.new) }
     ensures moments { ForSome (devices (R.state rig.old)) (λ all. Throughout R.Rig rig.old rig.new (LeavesSaying all usage)) }
     ensures goes_on { GoesOn (R.state rig.old) (R.state rig.new) }
-    ensures cause { result ≡ 6 → Rose (R.state rig.old).output_faults (R.state rig.new).output_faults }
+    ensures cause { Faults (status_device result) (R.state rig.old) (R.state rig.new) }
 {
     match rig.say(USAGE) {
         Ok(()) => 1,
@@ -43,18 +44,21 @@ fn say_usage<R: Rig>(rig: &mut R) -> u8
 /// Runs the script that a command stands for.
 fn obey<R: Rig, S: Source>(alloc: Global, command: Command, rig: &mut R, input: &mut S) -> Ended
     ensures headline { (cs : List Step) (end : End) (said : List ℕ) (b : Begun) → Asks (command_view command) (S.input input.old).left cs end → Opening the_machine (R.state rig.old) said b →
-        Nothing R.Rig rig.old rig.new ⊎ From R.Rig rig.old rig.new (OpensToPrefix the_machine b cs (last_text end) said) }
+        OnceDurable R.Rig rig.old rig.new (OpensToPrefix the_machine b cs (last_text end) said) (end_device result) }
     ensures ends { (said : List ℕ) (b : Begun) → Opening the_machine (R.state rig.old) said b → EndsAt (command_view command) (R.state rig.new) (S.input input.old).left (S.input input.new).left b said result }
     ensures void { result ≡ Ended.Done → ForSome (seen_of (R.state rig.new) File.Journal) (λ journal. slot_of journal ≡ Void) }
     ensures refused { result ≡ Ended.Refused → RefusedSo the_machine (R.state rig.old) (R.state rig.new) }
-    ensures kept { KeepsRefused R.Rig rig.old rig.new the_machine }
+    ensures refusal { RefusedEnds the_machine (R.state rig.old) (R.state rig.new) result }
+    ensures untaken { (text : List ℕ) → RefusedWith (R.state rig.old) text → input.new ≡ input.old }
+    ensures kept { KeepsRefused R.Rig rig.old rig.new the_machine (end_device result) }
+    ensures looks { (said : List ℕ) (b : Begun) → Opening the_machine (R.state rig.old) said b → Looks R.Rig rig.old rig.new (command_view command) said b result }
     ensures complete { (said : List ℕ) (b : Begun) → Opening the_machine (R.state rig.old) said b → EndsWell (command_view command) (S.input input.old).left →
         Quiet (R.state rig.old) (R.state rig.new) (S.input input.old).faults (S.input input.new).faults → Answers Ended.Done result }
     ensures refuses { (text : List ℕ) → RefusedWith (R.state rig.old) text → Quiet (R.state rig.old) (R.state rig.new) (S.input input.old).faults (S.input input.new).faults → Answers Ended.Refused result }
     ensures alone { IsAlone (command_view command) result }
     ensures takes { TakesFor (command_view command) (S.input input.old).left (S.input input.new).left result }
     ensures goes_on { GoesOn (R.state rig.old) (R.state rig.new) }
-    ensures cause { EndsWithCause result (R.state rig.old) (R.state rig.new) (S.input input.old).faults (S.input input.new).faults }
+    ensures cause { FaultsWith (end_device result) (R.state rig.old) (R.state rig.new) (S.input input.old).faults (S.input input.new).faults }
 {
     match command {
         Command::List => one::<ImageEditor, R>(alloc, rig, &Query::List),
@@ -98,10 +102,11 @@ pub fn run<R: Rig, S: Source>(alloc: Global, words: &[String], rig: &mut R, inpu
     // At every moment, whatever a crash then leaves on image and journal opens again to the state that some prefix of the
     // commands gives, the prefix holding every command whose reply had been said; what was said are those replies, a front of
     // the next text, and nothing else; and each item of that state has the bytes that it had at the start. (Until opening has
-    // made both files durable, a crash leaves nothing that it couldn't have left at the start.)
+    // made both files durable, a crash leaves nothing that it couldn't have left at the start. Only where a file fails before,
+    // with 4 or 5, that is all.)
     ensures headline { ForSome (command_of (map (λ s. string_bytes s) words.now)) (λ command. (cs : List Step) (end : End) (said : List ℕ) (b : Begun) →
         Asks command (S.input input.old).left cs end → Opening the_machine (R.state rig.old) said b →
-        Nothing R.Rig rig.old rig.new ⊎ From R.Rig rig.old rig.new (OpensToPrefix the_machine b cs (last_text end) said)) }
+        OnceDurable R.Rig rig.old rig.new (OpensToPrefix the_machine b cs (last_text end) said) (status_device result)) }
     // What stands and was said at the end, by status.
     ensures ends { ForSome (command_of (map (λ s. string_bytes s) words.now)) (λ command.
         EndsWith command (R.state rig.old) (R.state rig.new) (S.input input.old).left (S.input input.new).left result) }
@@ -112,12 +117,21 @@ pub fn run<R: Rig, S: Source>(alloc: Global, words: &[String], rig: &mut R, inpu
     ensures refused { result ≡ 2 → RefusedSo the_machine (R.state rig.old) (R.state rig.new) }
     ensures refuses { ForSome (command_of (map (λ s. string_bytes s) words.now)) (λ _. (text : List ℕ) → RefusedWith (R.state rig.old) text →
         Quiet (R.state rig.old) (R.state rig.new) (S.input input.old).faults (S.input input.new).faults → (result ≡ 2) ⊎ (result ≡ 8)) }
-    // Files that are refused are kept: until they are durable nothing new is left, and from then on what stands for the same.
-    ensures kept { ForSome (command_of (map (λ s. string_bytes s) words.now)) (λ _. KeepsRefused R.Rig rig.old rig.new the_machine) }
+    // Files that are refused: the line that says why is said whole, with 2; a front of it, where the output fails, with 6; and
+    // nothing, with 4, 5 or 8. Nothing is taken of the input.
+    ensures refusal { ForSome (command_of (map (λ s. string_bytes s) words.now)) (λ _. (text : List ℕ) → RefusedWith (R.state rig.old) text →
+        SaysLine text (R.state rig.old) (R.state rig.new) result × (input.new ≡ input.old)) }
+    // They are kept: until they are durable nothing new is left, and from then on what stands for the same, with a front of that
+    // line said at most.
+    ensures kept { ForSome (command_of (map (λ s. string_bytes s) words.now)) (λ _. KeepsRefused R.Rig rig.old rig.new the_machine (status_device result)) }
     // Where the files open, the script ends well and no fault comes, all is done, or memory is wanting.
     ensures complete { ForSome (command_of (map (λ s. string_bytes s) words.now)) (λ command. (said : List ℕ) (b : Begun) → Opening the_machine (R.state rig.old) said b →
         EndsWell command (S.input input.old).left → Quiet (R.state rig.old) (R.state rig.new) (S.input input.old).faults (S.input input.new).faults → (result ≡ 0) ⊎ (result ≡ 8)) }
-    ensures causes { HasCauses (R.state rig.old) (R.state rig.new) (S.input input.old).faults (S.input input.new).faults result }
+    // `list` and `info` leave both files alone from the opening to the reply.
+    ensures looks { ForSome (command_of (map (λ s. string_bytes s) words.now)) (λ command. (said : List ℕ) (b : Begun) → Opening the_machine (R.state rig.old) said b →
+        LooksWith R.Rig rig.old rig.new command said b result) }
+    // The run ends at the first fault: with 4, 5, 6 or 7 the count of faults of that device alone has risen, and else none.
+    ensures cause { FaultsWith (status_device result) (R.state rig.old) (R.state rig.new) (S.input input.old).faults (S.input input.new).faults }
     ensures goes_on { GoesOn (R.state rig.old) (R.state rig.new) }
 {
     match command_of(words) {

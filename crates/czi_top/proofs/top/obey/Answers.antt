@@ -1,3 +1,4 @@
+use Rattle.czi_session.proofs.Stops.{alone_with}
 use Rattle.czi_top.proofs.Ending.{quiet_alone}
 use Rattle.czi_top.proofs.top.obey.Goals as goal
 
@@ -10,6 +11,12 @@ returns-in-List-clause-complete g c = λ said b h well q. c.one.ensures.complete
 pub returns-in-List-clause-refuses : goal.returns-in-List-clause-refuses
 returns-in-List-clause-refuses g c = λ text r q. c.one.ensures.refuses r.0 text r.1 r.2 (quiet_alone q)
 
+pub returns-in-List-clause-looks : goal.returns-in-List-clause-looks
+returns-in-List-clause-looks g c = rw c.in-List.is (λ said b h. c.one.ensures.reads said b h tt)
+
+pub returns-in-List-clause-cause : goal.returns-in-List-clause-cause
+returns-in-List-clause-cause g c = alone_with c.one.result _ _ _ c.one.ensures.alone c.one.ensures.cause
+
 pub returns-in-Info-clause-ends : goal.returns-in-Info-clause-ends
 returns-in-Info-clause-ends g c = rw c.in-Info.is c.one-in-Info.ensures.ends
 
@@ -18,6 +25,12 @@ returns-in-Info-clause-complete g c = λ said b h well q. c.one-in-Info.ensures.
 
 pub returns-in-Info-clause-refuses : goal.returns-in-Info-clause-refuses
 returns-in-Info-clause-refuses g c = λ text r q. c.one-in-Info.ensures.refuses r.0 text r.1 r.2 (quiet_alone q)
+
+pub returns-in-Info-clause-looks : goal.returns-in-Info-clause-looks
+returns-in-Info-clause-looks g c = rw c.in-Info.is (λ said b h. c.one-in-Info.ensures.reads said b h tt)
+
+pub returns-in-Info-clause-cause : goal.returns-in-Info-clause-cause
+returns-in-Info-clause-cause g c = alone_with c.one-in-Info.result _ _ _ c.one-in-Info.ensures.alone c.one-in-Info.ensures.cause
 
 pub returns-in-Edit-clause-ends : goal.returns-in-Edit-clause-ends
 returns-in-Edit-clause-ends g c = rw c.in-Edit.is (λ said b h cs end input told reads.
@@ -30,3 +43,9 @@ returns-in-Edit-clause-complete g c = λ said b h well q.
 
 pub returns-in-Edit-clause-refuses : goal.returns-in-Edit-clause-refuses
 returns-in-Edit-clause-refuses g c = λ text r q. c.edit.ensures.refuses r.0 text r.1 r.2 q
+
+pub returns-in-Edit-clause-looks : goal.returns-in-Edit-clause-looks
+returns-in-Edit-clause-looks g c = rw c.in-Edit.is (λ said b h. tt)
+
+pub returns-in-Edit-clause-untaken : goal.returns-in-Edit-clause-untaken
+returns-in-Edit-clause-untaken g c = λ text r. c.edit.ensures.untaken r.0 text r.1 r.2
