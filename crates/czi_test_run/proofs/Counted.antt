@@ -1,6 +1,6 @@
 -- A count whose files were synced, and one byte more.
-use Rattle.std.proofs.Common.{◌≡◌, ℕ, ◌+◌, List, [], ◌∷◌, length, refl, ◌∙◌, ap, arith}
-use Rattle.std.specs.Prelude.{option_map}
+use Rattle.std.proofs.Common.{◌≡◌, ℕ, ◌+◌, ◌^◌, ◌<◌, List, [], ◌∷◌, length, refl, ◌∙◌, ap, arith}
+use Rattle.std.specs.Prelude.{min, option_map}
 use Rattle.std.specs.Option.{ForSome}
 use Rattle.std.proofs.lemmas.Grind.{common_steps}
 use Rattle.czi_rig.specs.declared.rig.Rig.{Ghosts}
@@ -36,14 +36,17 @@ module _ {D : Type 0} (rig : Ghosts D) (only : OnlyNow rig) (old new : D) (said 
 length_more : (seen : List ℕ) (at : ℕ) → at ≡ length seen → length (overwritten at (0 ∷ []) seen) ≡ length seen + 1
 length_more seen at is = grind (arith, common_steps)
 
-pub one_more : (old mid new : State) (said : List ℕ) (s : ℕ) (at : ℕ) (h : Stands counting Counts old said s) → ForSome (seen_of old Image) (λ seen. at ≡ length seen) → SameAll old mid → LeavesOther Image mid new
-    → known new Image ≡ option_map (λ (disk : Disk). at_rest (overwritten at (0 ∷ []) disk.seen)) (known mid Image) → Stands counting Counts new said (s + 1)
-one_more old mid new said s at h at_is same other is =
+below : (s : ℕ) → s < 2 ^ 62 → s + 1 ≡ min (s + 1) (2 ^ 62)
+below s less = omega (arith, less)
+
+pub one_more : (old mid new : State) (said : List ℕ) (s : ℕ) (at : ℕ) (h : Stands counting Counts old said s) → at < 2 ^ 62 → ForSome (seen_of old Image) (λ seen. at ≡ length seen) → SameAll old mid → LeavesOther Image mid new
+    → known new Image ≡ option_map (λ (disk : Disk). at_rest (overwritten at (0 ∷ []) disk.seen)) (known mid Image) → Stands counting Counts new said (min (s + 1) (2 ^ 62))
+one_more old mid new said s at h less at_is same other is =
     let here = same_known old mid h.now h.known same in
     let length_is : at ≡ length h.now.image.seen = at_is h.now.image.seen (known_seen old Image h.now h.known) in
     record {
       now = _;
       known = file_known mid new Image h.now _ here other (is ∙ ap (option_map (λ (disk : Disk). at_rest (overwritten at (0 ∷ []) disk.seen))) (known_file mid Image h.now here));
       said_is = h.said_is;
-      stands = record { rest = refl; count = length_more h.now.image.seen at length_is ∙ ap (λ (n : ℕ). n + 1) h.stands.count };
+      stands = record { rest = refl; count = length_more h.now.image.seen at length_is ∙ (ap (λ (n : ℕ). n + 1) h.stands.count ∙ below s (omega (arith, less, length_is, h.stands.count))) };
     }

@@ -1,5 +1,5 @@
 -- An editor that counts, for tests.
-use Rattle.std.specs.Prelude.{◌≡◌, ℕ, ◌+◌, ◌<◌, List, [], ◌∷◌, length}
+use Rattle.std.specs.Prelude.{◌≡◌, ℕ, ◌+◌, ◌^◌, ◌<◌, min, List, [], ◌∷◌, length}
 use Rattle.std.proofs.Common.{◌∙◌, ap, subst, lit<}
 use Rattle.czi_script.specs.Script.{Command}
 use Rattle.czi_rig.specs.Disk.{Disk, Left, IsAtRest}
@@ -9,7 +9,7 @@ use Rattle.czi_session.specs.Course.{Model}
 abbrev pub ok_line : List ℕ
 ok_line = 111 ∷ 107 ∷ 10 ∷ []
 
--- a document is how many bytes the image has, and each command adds one
+-- a document is how many bytes the image has, and each command adds one, as far as a device takes it
 abbrev pub counting : Model
 counting = record {
   Document = ℕ;
@@ -18,7 +18,7 @@ counting = record {
   refuses = λ image journal text. ⊥;
   keeps = λ image journal now_image now_journal. Unit {0};
   void = λ journal. Unit {0};
-  after = λ s c. s + 1;
+  after = λ s c. min (s + 1) (2 ^ 62);
   reply = λ s c. ok_line;
   still = λ s c. ⊥;
 }
@@ -33,3 +33,7 @@ opens_counts image journal s c i j l k = ap (λ (x : List ℕ). length x) (left_
 
 pub says_ok : (s : ℕ) (c : Command) → 0 < length ok_line
 says_ok s c = lit< tt
+
+-- no pair is refused
+pub refused_once : (image journal text other : List ℕ) → ⊥ → ⊥ → text ≡ other
+refused_once image journal text other so also = absurd so

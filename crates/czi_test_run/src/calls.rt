@@ -1,5 +1,6 @@
 //! Tests of a crash and of a failure in each call of a script.
 
+use crate::devices::NEVER;
 use crate::outcomes::{NO_TILES, TILE, check_said, outcome};
 use crate::scripts::{REPLIES, SCRIPT, one_tile_rig};
 use czi_rig::{Call, File, MemRig, Pick};
@@ -19,7 +20,7 @@ fn number_of(rig: &MemRig, call: Call) -> Result<u64, Fail> {
 
 // A run of the script.
 fn whole_run(rt: &impl Abort, alloc: Global) -> Result<MemRig, Fail> {
-    let mut rig = one_tile_rig(alloc)?;
+    let mut rig = one_tile_rig(alloc, NEVER)?;
     let status = outcome(alloc, &["F", "edit"], SCRIPT, &mut rig)?;
     assert!(rt; status == 0);
     Ok(rig)
@@ -120,19 +121,19 @@ static FAILED: [(Call, u8, &[u8], &[u8]); 7] = [
     (Call::Cut(File::Journal, 1), 5, REPLIES, NO_TILES),
 ];
 
-// The run of the script in which the call fails: the status, and what is said.
-fn failed_run(
+// A run of the script in which the call with this number fails, and what `list` says then.
+fn check_failed(
     rt: &impl Abort,
     alloc: Global,
     failing: u64,
-    status: u8,
-    said: &[u8],
-) -> Result<MemRig, Fail> {
-    let mut rig = one_tile_rig(alloc)?;
-    rig.fail_call(failing)?;
+    (status, said): (u8, &[u8]),
+    listed: &[u8],
+) -> Result<(), Fail> {
+    let mut rig = one_tile_rig(alloc, failing)?;
     let answer = outcome(alloc, &["F", "edit"], SCRIPT, &mut rig)?;
     assert!(rt; answer == status && rig.said() == said, "call {failing}");
-    Ok(rig)
+    let files = (rig.content(File::Image), rig.content(File::Journal));
+    check_said(rt, alloc, "list", files, (0, listed))
 }
 
 #[test]
@@ -141,9 +142,7 @@ fn a_failed_call_stops_the_script(rt: HostRuntime) -> Result<(), Fail> {
     let whole = whole_run(&rt, alloc)?;
     for (call, status, said, listed) in FAILED.iter() {
         let failing = number_of(&whole, *call)?;
-        let rig = failed_run(&rt, alloc, failing, *status, said)?;
-        let files = (rig.content(File::Image), rig.content(File::Journal));
-        check_said(&rt, alloc, "list", files, (0, listed))?;
+        check_failed(&rt, alloc, failing, (*status, said), listed)?;
     }
     Ok(())
 }

@@ -1,14 +1,17 @@
 //! An editor for tests.
 
 ghost use Rattle.std.specs.Prelude.{◌≡◌, ◌++◌, OnOk, ⊤};
-ghost use Rattle.czi_test_run.specs.Counting.{counting, Counts, ok_line, opens_counts, says_ok};
+ghost use Rattle.czi_test_run.specs.Counting.{counting, Counts, ok_line, opens_counts, refused_once, says_ok};
 
 use czi_rig::{Failed, File, Rig, write_synced};
 use czi_script::Command;
 use czi_session::{Editor, EditorStop, OpenStop};
 use std::alloc::{AllocError, Global};
 
-/// An editor that counts: each command makes the image longer by a byte.
+/// The length of the longest image that a device takes, in bytes.
+const MOST: u64 = 1 << 62;
+
+/// An editor that counts: each command makes the image longer by a byte, as far as a device takes it.
 #[derive(Drop)]
 pub(crate) struct Counter {}
 
@@ -31,6 +34,8 @@ impl Editor for Counter {
     ghost opens_now = { λ editor image journal s. opens_counts image journal s };
 
     ghost says_something = { λ s c. says_ok s c };
+
+    ghost refused_once = { λ image journal text other so also. refused_once image journal text other so also };
 
     fn open<R: Rig>(_alloc: Global, rig: &mut R) -> Result<Counter, OpenStop> {
         match rig.sync(File::Image) {
@@ -55,8 +60,8 @@ impl Editor for Counter {
         let Ok(at) = rig.len(File::Image) else {
             return Err(EditorStop::Image);
         };
-        if at >= 1 << 62 {
-            return Err(EditorStop::Memory);
+        if at >= MOST {
+            return Ok(());
         }
         match write_synced(rig, File::Image, at, &[0]) {
             Ok(()) => Ok(()),

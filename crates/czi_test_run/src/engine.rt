@@ -1,10 +1,15 @@
 //! Tests of the engine.
 
+ghost use Rattle.std.specs.Prelude.{IsFalse};
+ghost use Rattle.czi_rig.specs.MemRig.{state_in};
+ghost use Rattle.czi_engine.specs.Standing.{StandsOnRig};
+
+use crate::devices::check_files;
 use crate::images::{Part, file};
 use czi_doc::read_dims;
 use czi_engine::{EditError, Engine, ImageRefusal, OpenError};
 use czi_num::Span;
-use czi_rig::{File, MemRig};
+use czi_rig::MemRig;
 use std::alloc::{AllocError, Global};
 use std::process::Abort;
 use std::test::Fail;
@@ -40,67 +45,78 @@ fn journal_of(alloc: Global, changes: &[Part]) -> Result<Vec<u8>, AllocError> {
     file(alloc, 524352, &JOURNAL, changes)
 }
 
-// An engine that stands on an image of this length, after so many edits.
+// A rig over the image of so many bytes with changes, and no journal.
+fn rig_of(alloc: Global, len: usize, changes: &[Part]) -> Result<MemRig, AllocError> {
+    let image = image_of(alloc, len, changes)?;
+    MemRig::new(alloc, &image, b"")
+}
+
+// The engine stands on an image of this length, after so many edits.
 fn check_standing(rt: &impl Abort, engine: &Engine, length: u64, number: u64) {
     assert!(rt; engine.length() == length && engine.number() == number && !engine.down());
 }
 
-// The free runs and the spans held back.
-fn check_map(rt: &impl Abort, engine: &Engine, free: &[Span], held: &[Span]) -> Result<(), Fail> {
+// The image has no subblock and no directory, and these spans are free.
+fn check_empty(rt: &impl Abort, engine: &Engine, free: &[Span]) -> Result<(), Fail> {
     let runs = engine.map().runs()?;
-    assert!(rt; runs.as_slice() == free && engine.map().held() == held);
+    assert!(rt; runs.as_slice() == free && engine.map().held().is_empty());
+    assert!(rt; engine.entries().is_empty() && engine.index().directory.is_none());
     Ok(())
 }
 
 #[test]
 fn an_empty_document_is_opened_and_closed(rt: HostRuntime) -> Result<(), Fail> {
     let alloc = rt.alloc();
-    let image = image_of(alloc, 704, &[])?;
-    let mut rig = MemRig::new(alloc, &image, b"")?;
+    let mut rig = rig_of(alloc, 704, &[])?;
     let Ok(engine) = Engine::open(alloc, &mut rig) else {
         return Err(Fail::new("not opened"));
     };
-    assert!(rt; engine.entries().is_empty() && engine.index().directory.is_none());
     check_standing(&rt, &engine, 704, 0);
-    check_map(&rt, &engine, &[Span { at: 544, len: 160 }], &[])?;
+    check_empty(&rt, &engine, &[Span { at: 544, len: 160 }])?;
     let calls = rig.calls();
     let sealed = engine.seal(&mut rig);
     assert!(rt; sealed.is_ok() && rig.calls() == calls);
     Ok(())
 }
 
-// What the files of a rig are.
-fn check_files(rt: &impl Abort, rig: &MemRig, image: &[u8], journal: &[u8]) {
-    assert!(rt; rig.content(File::Image) == image && rig.content(File::Journal) == journal);
-}
-
-#[test]
-fn a_journal_that_counts_is_recovered_and_sealed(rt: HostRuntime) -> Result<(), Fail> {
-    let alloc = rt.alloc();
-    let want = image_of(alloc, 704, &[])?;
-    let journal = journal_of(alloc, &[])?;
-    let mut rig = recoverable(alloc, &journal)?;
-    let Ok(mut engine) = Engine::open(alloc, &mut rig) else {
-        return Err(Fail::new("not opened"));
-    };
-    check_files(&rt, &rig, &want, &journal);
-    let Ok(()) = engine.reopen(alloc, &mut rig) else {
-        return Err(Fail::new("not opened again"));
-    };
-    check_standing(&rt, &engine, 704, 0);
-    let sealed = engine.seal(&mut rig);
-    assert!(rt; sealed.is_ok());
-    check_files(&rt, &rig, &want, &[0]);
-    Ok(())
-}
-
-// A rig whose image is longer than the journal says, with another pointer to the directory and an update pending.
+// A rig whose image is longer than its journal says, with another pointer to the directory and an update pending.
 fn recoverable(alloc: Global, journal: &[u8]) -> Result<MemRig, AllocError> {
     let image = image_of(alloc, 800, &[(84, &[9]), (100, &[1])])?;
     MemRig::new(alloc, &image, journal)
 }
 
-// An image with these bytes written over, beside such a journal, isn't opened for this reason.
+// The engine on these files is opened, opened again and sealed: the journal stays until then.
+fn check_recovered(
+    rt: &impl Abort,
+    alloc: Global,
+    rig: &mut MemRig,
+    image: &[u8],
+    journal: &[u8],
+) -> Result<(), Fail> {
+    let Ok(mut engine) = Engine::open(alloc, rig) else {
+        return Err(Fail::new("not opened"));
+    };
+    check_files(rt, rig, image, journal);
+    let Ok(()) = engine.reopen(alloc, rig) else {
+        return Err(Fail::new("not opened again"));
+    };
+    check_standing(rt, &engine, 704, 0);
+    let sealed = engine.seal(rig);
+    assert!(rt; sealed.is_ok());
+    check_files(rt, rig, image, &[0]);
+    Ok(())
+}
+
+#[test]
+fn a_journal_that_counts_is_recovered_and_sealed(rt: HostRuntime) -> Result<(), Fail> {
+    let alloc = rt.alloc();
+    let image = image_of(alloc, 704, &[])?;
+    let journal = journal_of(alloc, &[])?;
+    let mut rig = recoverable(alloc, &journal)?;
+    check_recovered(&rt, alloc, &mut rig, &image, &journal)
+}
+
+// The image of 800 bytes beside the journal, both with changes, isn't opened for this reason.
 fn check_refused(
     rt: &impl Abort,
     alloc: Global,
@@ -137,20 +153,29 @@ fn each_refusal_is_told(rt: HostRuntime) -> Result<(), Fail> {
     check_refused(&rt, alloc, &[(100, &[1])], &[(0, &[0])], pending)
 }
 
+// The next call of the rig fails: the engine is down after it, and up again once it is opened again.
+fn check_down(
+    rt: &impl Abort,
+    alloc: Global,
+    engine: &mut Engine,
+    rig: &mut MemRig,
+) -> Result<(), Fail> {
+    rig.fail_call(rig.calls())?;
+    let failed = engine.reopen(alloc, rig);
+    assert!(rt; failed == Err(OpenError::ImageDevice) && engine.down());
+    let again = engine.reopen(alloc, rig);
+    assert!(rt; again.is_ok() && !engine.down());
+    Ok(())
+}
+
 #[test]
 fn an_engine_is_down_until_it_is_opened_again(rt: HostRuntime) -> Result<(), Fail> {
     let alloc = rt.alloc();
-    let image = image_of(alloc, 704, &[])?;
-    let mut rig = MemRig::new(alloc, &image, b"")?;
+    let mut rig = rig_of(alloc, 704, &[])?;
     let Ok(mut engine) = Engine::open(alloc, &mut rig) else {
         return Err(Fail::new("not opened"));
     };
-    rig.fail_call(rig.calls())?;
-    let failed = engine.reopen(alloc, &mut rig);
-    assert!(rt; failed == Err(OpenError::ImageDevice) && engine.down());
-    let again = engine.reopen(alloc, &mut rig);
-    assert!(rt; again.is_ok() && !engine.down());
-    Ok(())
+    check_down(&rt, alloc, &mut engine, &mut rig)
 }
 
 // What an image of 1280 bytes has besides: a subblock of 320 bytes at 704, and the directory at 1024, which names it.
@@ -174,25 +199,45 @@ static SUBBLOCK: [Part; 14] = [
     ),
 ];
 
+// The first removal is accepted. The second finds no key, and makes no call.
+fn check_removal(
+    rt: &impl Abort,
+    alloc: Global,
+    engine: &mut Engine,
+    rig: &mut MemRig,
+) -> Result<(), Fail>
+    requires stands { StandsOnRig (state_in rig.old) engine.old }
+    requires up { IsFalse engine.old.down }
+{
+    let dims = read_dims(alloc, b"C0,X0:4,Y0:2").ok().ok_or("no dims")?;
+    let Ok(number) = engine.remove(alloc, rig, &dims) else {
+        return Err(Fail::new("not removed"));
+    };
+    let calls = rig.calls();
+    let again = engine.remove(alloc, rig, &dims);
+    assert!(rt; number == 1 && again == Err(EditError::NoKey) && rig.calls() == calls);
+    Ok(())
+}
+
+// What is free and what is held back once the subblock is removed.
+fn check_held(rt: &impl Abort, engine: &Engine) -> Result<(), Fail> {
+    let free = [Span { at: 1024, len: 256 }];
+    let held = [Span { at: 704, len: 320 }];
+    let runs = engine.map().runs()?;
+    assert!(rt; engine.entries().is_empty() && runs.as_slice() == free.as_slice());
+    assert!(rt; engine.map().held() == held.as_slice());
+    Ok(())
+}
+
 #[test]
 fn a_removal_holds_the_subblock_back(rt: HostRuntime) -> Result<(), Fail> {
     let alloc = rt.alloc();
-    let image = image_of(alloc, 1280, &SUBBLOCK)?;
-    let mut rig = MemRig::new(alloc, &image, b"")?;
+    let mut rig = rig_of(alloc, 1280, &SUBBLOCK)?;
     let Ok(mut engine) = Engine::open(alloc, &mut rig) else {
         return Err(Fail::new("not opened"));
     };
     assert!(rt; engine.entries().len() == 1);
-    let dims = read_dims(alloc, b"C0,X0:4,Y0:2").ok().ok_or("no dims")?;
-    let Ok(number) = engine.remove(alloc, &mut rig, &dims) else {
-        return Err(Fail::new("not removed"));
-    };
-    let calls = rig.calls();
-    let again = engine.remove(alloc, &mut rig, &dims);
-    assert!(rt; number == 1 && again == Err(EditError::NoKey) && rig.calls() == calls);
-    assert!(rt; engine.entries().is_empty());
+    check_removal(&rt, alloc, &mut engine, &mut rig)?;
     check_standing(&rt, &engine, 1280, 1);
-    let free = [Span { at: 1024, len: 256 }];
-    let held = [Span { at: 704, len: 320 }];
-    check_map(&rt, &engine, &free, &held)
+    check_held(&rt, &engine)
 }

@@ -8,6 +8,8 @@ mod calls;
 #[cfg(test)]
 mod counter;
 #[cfg(test)]
+mod devices;
+#[cfg(test)]
 mod engine;
 #[cfg(test)]
 mod images;

@@ -1,6 +1,7 @@
 //! What runs of the program answer.
 
-use czi_rig::{MemRig, MemSource};
+use crate::devices::{NEVER, failing_input};
+use czi_rig::MemRig;
 use czi_top::run;
 use std::alloc::{AllocError, Global};
 use std::process::Abort;
@@ -23,8 +24,7 @@ pub(crate) fn outcome_over(
     rig: &mut MemRig,
 ) -> Result<u8, AllocError> {
     let words = owned(alloc, words)?;
-    let mut input = MemSource::new(alloc, script)?;
-    input.fail_call(failing)?;
+    let mut input = failing_input(alloc, script, failing)?;
     Ok(run(alloc, &words, rig, &mut input))
 }
 
@@ -35,7 +35,7 @@ pub(crate) fn outcome(
     script: &[u8],
     rig: &mut MemRig,
 ) -> Result<u8, AllocError> {
-    outcome_over(alloc, words, script, u64::MAX, rig)
+    outcome_over(alloc, words, script, NEVER, rig)
 }
 
 /// What the command says of these files, and the status that it answers.

@@ -1,5 +1,6 @@
 //! Tests of scripts: what they say and leave, and what an input or a journal that is wrong makes of them.
 
+use crate::devices::{NEVER, check_files, failing_rig};
 use crate::images::{Part, one_tile, put};
 use crate::outcomes::{NO_TILES, ONE, TILE, check_said, outcome, outcome_over};
 use czi_rig::{File, MemRig};
@@ -24,10 +25,10 @@ const REMOVED: &[u8] = b"length 1280\n\
     attachments 0\n\
     metadata none\n";
 
-/// A rig over the document with one tile.
-pub(crate) fn one_tile_rig(alloc: Global) -> Result<MemRig, AllocError> {
+/// A rig over the document with one tile, whose call with this number fails.
+pub(crate) fn one_tile_rig(alloc: Global, failing: u64) -> Result<MemRig, AllocError> {
     let image = one_tile(alloc, 1280, &[])?;
-    MemRig::new(alloc, &image, b"")
+    failing_rig(alloc, &image, failing)
 }
 
 // Scripts, the status and what is said, how long the journal is then, and what `info` says.
@@ -68,7 +69,7 @@ fn ran(
     status: u8,
     said: &[u8],
 ) -> Result<MemRig, Fail> {
-    let mut rig = one_tile_rig(alloc)?;
+    let mut rig = one_tile_rig(alloc, NEVER)?;
     let answer = outcome(alloc, &["F", "edit"], script, &mut rig)?;
     assert!(rt; answer == status && rig.said() == said);
     Ok(rig)
@@ -103,14 +104,9 @@ fn check_left(
     )
 }
 
-// The call of the input that fails, and what is said.
-fn check_input_failed(
-    rt: &impl Abort,
-    alloc: Global,
-    failing: u64,
-    said: &[u8],
-) -> Result<MemRig, Fail> {
-    let mut rig = one_tile_rig(alloc)?;
+// A run of the script over an input whose call with this number fails.
+fn input_failed(rt: &impl Abort, alloc: Global, failing: u64, said: &[u8]) -> Result<MemRig, Fail> {
+    let mut rig = one_tile_rig(alloc, NEVER)?;
     let status = outcome_over(alloc, &["F", "edit"], SCRIPT, failing, &mut rig)?;
     assert!(rt; status == 7 && rig.said() == said);
     Ok(rig)
@@ -119,11 +115,10 @@ fn check_input_failed(
 #[test]
 fn a_failed_input_stops_the_script(rt: HostRuntime) -> Result<(), Fail> {
     let alloc = rt.alloc();
-    let rig = check_input_failed(&rt, alloc, 0, b"")?;
     let image = one_tile(alloc, 1280, &[])?;
-    assert!(rt; rig.content(File::Image) == image.as_slice());
-    assert!(rt; rig.content(File::Journal).is_empty());
-    let _ = check_input_failed(&rt, alloc, 1, REPLIES)?;
+    let rig = input_failed(&rt, alloc, 0, b"")?;
+    check_files(&rt, &rig, &image, b"");
+    let _ = input_failed(&rt, alloc, 1, REPLIES)?;
     Ok(())
 }
 
@@ -137,7 +132,9 @@ fn changed(alloc: Global, bytes: &[u8], part: Part) -> Result<Vec<u8>, AllocErro
 const NONE: Part = (0, b"");
 
 // How long the image is made, what is written over the image and over the journal, and what `list` answers then.
-static MISFITS: [(usize, Part, Part, u8, &[u8]); 6] = [
+type Misfit = (usize, Part, Part, u8, &'static [u8]);
+
+static MISFITS: [Misfit; 6] = [
     (1280, NONE, NONE, 0, NO_TILES),
     (1000, NONE, NONE, 2, b"refused short 1000 1280\n"),
     (
@@ -158,6 +155,18 @@ static MISFITS: [(usize, Part, Part, u8, &[u8]); 6] = [
     ),
 ];
 
+fn check_misfit(
+    rt: &impl Abort,
+    alloc: Global,
+    rig: &MemRig,
+    (len, in_image, in_journal, status, said): &Misfit,
+) -> Result<(), Fail> {
+    let mut image = changed(alloc, rig.content(File::Image), *in_image)?;
+    image.truncate(*len);
+    let journal = changed(alloc, rig.content(File::Journal), *in_journal)?;
+    check_said(rt, alloc, "list", (&image, &journal), (*status, said))
+}
+
 // The journal counts after a script that breaks off. Slot B is selected, from 262208 on: its record is of version 1, and has
 // the GUID at 262212, the length 1280, at 262236 three links: of 8, 32 and 32 bytes.
 #[test]
@@ -165,11 +174,8 @@ fn a_journal_that_counts_refuses_what_does_not_fit(rt: HostRuntime) -> Result<()
     let alloc = rt.alloc();
     let script = b"remove dims=C0,X0:4,Y0:2\nbad\n";
     let rig = ran(&rt, alloc, script, 3, b"ok 1\nscript 2 word\n")?;
-    for (len, in_image, in_journal, status, said) in MISFITS.iter() {
-        let mut image = changed(alloc, rig.content(File::Image), *in_image)?;
-        image.truncate(*len);
-        let journal = changed(alloc, rig.content(File::Journal), *in_journal)?;
-        check_said(&rt, alloc, "list", (&image, &journal), (*status, said))?;
+    for misfit in MISFITS.iter() {
+        check_misfit(&rt, alloc, &rig, misfit)?;
     }
     Ok(())
 }

@@ -1,6 +1,7 @@
 //! Tests of the session, with an editor that counts.
 
 use crate::counter::Counter;
+use crate::devices::{NEVER, failing_input, failing_rig};
 use czi_rig::{File, MemRig, MemSource};
 use czi_script::{Command, Kind};
 use czi_session::{Ended, Stop, edit, one};
@@ -11,8 +12,10 @@ use std::test::Fail;
 // How a run is to end, what it is to have said, and how long the image is to be then.
 type Want = (Ended, &'static [u8], usize);
 
-// The number of a call that isn't made.
-const NEVER: u64 = u64::MAX;
+// The run has said this, and the image is so long.
+fn check_left(rt: &impl Abort, rig: &MemRig, said: &[u8], len: usize) {
+    assert!(rt; rig.said() == said && rig.content(File::Image).len() == len);
+}
 
 // Runs a script on a counter over an image of two bytes. The calls with these numbers of the rig and of the input fail.
 fn check(
@@ -22,13 +25,11 @@ fn check(
     (rig_call, input_call): (u64, u64),
     (ended, said, len): &Want,
 ) -> Result<(), Fail> {
-    let mut rig = MemRig::new(alloc, b"II", b"")?;
-    rig.fail_call(rig_call)?;
-    let mut input = MemSource::new(alloc, script)?;
-    input.fail_call(input_call)?;
+    let mut rig = failing_rig(alloc, b"II", rig_call)?;
+    let mut input = failing_input(alloc, script, input_call)?;
     let end = edit::<Counter, MemRig, MemSource>(alloc, &mut rig, &mut input);
     assert!(rt; end == *ended);
-    assert!(rt; rig.said() == *said && rig.content(File::Image).len() == *len);
+    check_left(rt, &rig, said, *len);
     Ok(())
 }
 
@@ -120,11 +121,10 @@ fn check_one(
     failing: u64,
     (ended, said, len): &Want,
 ) -> Result<(), Fail> {
-    let mut rig = MemRig::new(alloc, b"II", b"")?;
-    rig.fail_call(failing)?;
+    let mut rig = failing_rig(alloc, b"II", failing)?;
     let end = one::<Counter, MemRig>(alloc, &mut rig, command);
     assert!(rt; end == *ended);
-    assert!(rt; rig.said() == *said && rig.content(File::Image).len() == *len);
+    check_left(rt, &rig, said, *len);
     Ok(())
 }
 

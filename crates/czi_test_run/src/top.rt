@@ -1,9 +1,11 @@
 //! Tests of the top call: its words, and what it says of images.
 
+use crate::devices::check_files;
 use crate::images::{Part, empty_document, one_tile};
 use crate::outcomes::{NO_TILES, ONE, TILE, check_said, outcome};
-use czi_rig::{File, MemRig};
-use std::alloc::Global;
+use crate::scripts::one_tile_rig;
+use czi_rig::MemRig;
+use std::alloc::{AllocError, Global};
 use std::process::Abort;
 use std::test::Fail;
 
@@ -18,7 +20,7 @@ fn check_told(
     let mut rig = MemRig::new(alloc, image, b"")?;
     let status = outcome(alloc, &["F", command], b"", &mut rig)?;
     assert!(rt; status == 0 && rig.said() == said);
-    assert!(rt; rig.content(File::Image) == image && rig.content(File::Journal).is_empty());
+    check_files(rt, &rig, image, b"");
     Ok(())
 }
 
@@ -47,9 +49,13 @@ fn images_are_listed_and_told_of(rt: HostRuntime) -> Result<(), Fail> {
         let image = empty_document(alloc, *len, changes)?;
         check_told(&rt, alloc, &image, command, said)?;
     }
+    check_tile_told(&rt, alloc)
+}
+
+fn check_tile_told(rt: &impl Abort, alloc: Global) -> Result<(), Fail> {
     let image = one_tile(alloc, 1280, &[])?;
-    check_told(&rt, alloc, &image, "list", TILE)?;
-    check_told(&rt, alloc, &image, "info", ONE)
+    check_told(rt, alloc, &image, "list", TILE)?;
+    check_told(rt, alloc, &image, "info", ONE)
 }
 
 // The first rules that refuse the document without subblocks, with so many bytes and these changes.
@@ -110,6 +116,14 @@ fn check_tile_refused(rt: &impl Abort, alloc: Global) -> Result<(), Fail> {
     Ok(())
 }
 
+const USAGE: &[u8] = b"usage: czi_tool FILE COMMAND [name=value ...]\n";
+
+// A rig over the document without subblocks.
+fn empty_rig(alloc: Global) -> Result<MemRig, AllocError> {
+    let image = empty_document(alloc, 704, &[])?;
+    MemRig::new(alloc, &image, b"")
+}
+
 // Words that are no command.
 static OTHER_WORDS: [&[&str]; 9] = [
     &[],
@@ -124,11 +138,9 @@ static OTHER_WORDS: [&[&str]; 9] = [
 ];
 
 fn check_usage(rt: &impl Abort, alloc: Global, words: &[&str]) -> Result<(), Fail> {
-    let image = empty_document(alloc, 704, &[])?;
-    let mut rig = MemRig::new(alloc, &image, b"")?;
+    let mut rig = empty_rig(alloc)?;
     let status = outcome(alloc, words, b"", &mut rig)?;
-    let usage = b"usage: czi_tool FILE COMMAND [name=value ...]\n".as_slice();
-    assert!(rt; status == 1 && rig.said() == usage && rig.calls() == 1);
+    assert!(rt; status == 1 && rig.said() == USAGE && rig.calls() == 1);
     Ok(())
 }
 
@@ -144,17 +156,11 @@ fn other_words_get_the_usage_line(rt: HostRuntime) -> Result<(), Fail> {
 static FAILED_CALLS: [(u64, u8); 7] = [(0, 4), (1, 5), (2, 5), (3, 4), (8, 4), (9, 6), (10, 0)];
 
 fn check_failed(rt: &impl Abort, alloc: Global, number: u64, status: u8) -> Result<(), Fail> {
-    let image = one_tile(alloc, 1280, &[])?;
-    let mut rig = MemRig::new(alloc, &image, b"")?;
-    rig.fail_call(number)?;
+    let mut rig = one_tile_rig(alloc, number)?;
     let answer = outcome(alloc, &["F", "info"], b"", &mut rig)?;
-    let said = rig.said();
-    let whole = said == ONE;
     assert!(rt; answer == status, "call {number}");
-    assert!(rt;
-        ONE.starts_with(said) && whole == (status == 0),
-        "call {number}"
-    );
+    let said = rig.said();
+    assert!(rt; ONE.starts_with(said) && (said.len() == ONE.len()) == (status == 0));
     Ok(())
 }
 
