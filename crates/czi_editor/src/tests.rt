@@ -119,8 +119,10 @@ fn an_editor_is_opened_and_closed(rt: HostRuntime) -> Result<(), Fail> {
         return Err(Fail::new("not opened"));
     };
     let mut reply = Vec::new(alloc);
-    let listed = editor.perform(alloc, &mut rig, &Command::List, &mut reply);
-    assert!(rt; listed.is_ok() && reply.as_slice() == b"tiles 0\n".as_slice());
+    let Ok(()) = editor.perform(alloc, &mut rig, &Command::List, &mut reply) else {
+        return Err(Fail::new("not listed"));
+    };
+    assert!(rt; reply.as_slice() == b"tiles 0\n".as_slice());
     let sealed = editor.seal(&mut rig);
     assert!(rt; sealed.is_ok() && rig.content(File::Image) == image.as_slice());
     Ok(())
