@@ -10,3 +10,4 @@ pub mod Rails
 pub mod Breaks
 pub mod Begun
 pub mod FaultFirst
+pub mod Numbers

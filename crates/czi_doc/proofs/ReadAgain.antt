@@ -83,7 +83,7 @@ digits_front (c ∷ digits) bytes all stop =
     more : is_ascii_digit c ≡ true → prefix_len is_ascii_digit (c ∷ (digits ++ bytes)) ≡ 1 + prefix_len is_ascii_digit (digits ++ bytes)
     more t = rw t
 
-number_front : (digits bytes : List ℕ) (n : ℕ) → IsNatural digits n → prefix_len is_ascii_digit bytes ≡ 0 → number_len (digits ++ bytes) ≡ length digits
+pub number_front : (digits bytes : List ℕ) (n : ℕ) → IsNatural digits n → prefix_len is_ascii_digit bytes ≡ 0 → number_len (digits ++ bytes) ≡ length digits
 number_front [] bytes n is stop = absurd (let some : 0 < length {A = ℕ} [] = is.digits.0 in omega (arith, some))
 number_front (b ∷ digits) bytes n is stop = elim (cases_Bool (b == 48)) [
   | inl t ↦ zero_first t ∙ sym (is.lean (eqb-true _ _ t))

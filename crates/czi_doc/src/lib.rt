@@ -12,5 +12,5 @@ pub use dimensions::{Dim, Dims, ItemFault};
 pub use fault::TextFault;
 pub use items::{AttInfo, Bytes, EntryInfo};
 pub use keys::{Key, equal_keys};
-pub use reading::read_dims;
+pub use reading::{read_dims, read_integer, read_natural};
 pub use writing::{write_dims, write_name};

@@ -1,8 +1,9 @@
 //! Dimension text, read.
 
-ghost use Rattle.std.specs.Prelude.{◌≡◌, ◌+◌, ◌-◌, ◌^◌, ◌≤◌, ◌<◌, ◌++◌, length, replicate, MatchOption, MatchResult, IfOk};
+ghost use Rattle.std.specs.Prelude.{◌≡◌, ℕ, ℤ, ◌+◌, ◌-◌, ◌^◌, ◌≤◌, ◌<◌, ◌++◌, length, replicate, MatchOption, MatchResult, IfOk, FitsSigned};
+ghost use Rattle.std.specs.Int.{w32};
 ghost use Rattle.std.specs.Str.Parse.{AllDigits, digits_value};
-ghost use Rattle.czi_doc.specs.DimText.{IsDimText};
+ghost use Rattle.czi_doc.specs.DimText.{IsNatural, IsNumber, IsDimText};
 ghost use Rattle.czi_doc.specs.View.{dim_of, dims_of};
 ghost use Rattle.czi_doc.specs.Reading.{Read, Sizes, name_len, name_at, number_len, magnitude_at, negative_at, positive_at, begins_with, number_at, stored_at, sizes_at, item_at, items_at};
 ghost use Rattle.czi_doc.specs.Seen.{ReadsEach, Tells, TellsFirst, seen};
@@ -66,16 +67,16 @@ fn padded(name: &[u8]) -> [u8; 4]
     bytes
 }
 
-/// The number that digits spell, where it is below 2^32.
-fn magnitude(digits: &[u8]) -> Option<u32>
+/// The number that digits spell, where it is below 2^64.
+fn magnitude(digits: &[u8]) -> Option<u64>
     requires { AllDigits 10 digits.now }
-    ensures { MatchOption result (2 ^ 32 ≤ digits_value 10 digits.now) (λ v. v ≡ digits_value 10 digits.now) }
+    ensures { MatchOption result (2 ^ 64 ≤ digits_value 10 digits.now) (λ v. v ≡ digits_value 10 digits.now) }
 {
-    let mut value: u32 = 0;
+    let mut value: u64 = 0;
     for digit in digits {
         value = value
             .checked_mul(10)?
-            .checked_add(u32::from(*digit - b'0'))?;
+            .checked_add(u64::from(*digit - b'0'))?;
     }
     Some(value)
 }
@@ -89,7 +90,10 @@ fn read_negative(text: &[u8]) -> Result<(i32, &[u8]), usize>
     let len = number_len(text);
     match magnitude(&text[..len]) {
         Some(0) => Err(text.len()),
-        Some(value) if value <= 1 << 31 => Ok((value.cast_signed().wrapping_neg(), &text[len..])),
+        Some(value) if value <= 1 << 31 => Ok((
+            (value as u32).cast_signed().wrapping_neg(),
+            &text[len..],
+        )),
         _ => Err(text.len() + 1),
     }
 }
@@ -105,7 +109,7 @@ fn read_positive(text: &[u8]) -> Result<(i32, &[u8]), usize>
         return Err(text.len());
     }
     match magnitude(&text[..len]) {
-        Some(value) if value < 1 << 31 => Ok((value.cast_signed(), &text[len..])),
+        Some(value) if value < 1 << 31 => Ok((value as i32, &text[len..])),
         _ => Err(text.len()),
     }
 }
@@ -127,6 +131,31 @@ fn read_number(text: &[u8]) -> Result<(i32, &[u8]), usize>
     } else {
         read_positive(text)
     }
+}
+
+/// The number that a text is: `0`, or digits without a leading zero. None where it is none below 2^64.
+pub fn read_natural(text: &[u8]) -> Option<u64>
+    ensures { MatchOption result ((n : ℕ) → IsNatural text.now n → 2 ^ 64 ≤ n) (λ n. IsNatural text.now n) }
+{
+    let len = number_len(text);
+    if len == 0 || len < text.len() {
+        return None;
+    }
+    magnitude(text)
+}
+
+/// The signed 32-bit number that a text is: digits without a leading zero, behind a `-` where it is below 0. None
+/// where it is none of that range.
+pub fn read_integer(text: &[u8]) -> Option<i32>
+    ensures { MatchOption result ((n : ℤ) → IsNumber text.now n → FitsSigned w32 n → ⊥) (λ n. IsNumber text.now n) }
+{
+    let Ok((value, rest)) = read_number(text) else {
+        return None;
+    };
+    if !rest.is_empty() {
+        return None;
+    }
+    Some(value)
 }
 
 /// A stored size behind a `:`, where there is one. A missing one is the size.

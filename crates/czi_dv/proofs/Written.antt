@@ -25,14 +25,14 @@ record_fields name coord start size stored long wide =
     (record_cells n.0 n.1 n.2 n.3 c.0 c.1 c.2 c.3 start size stored))
 
 -- a dimension record, field by field
-pub record_written : (d : Dim) (b1 b2 b3 b4 b5 : List ℕ) → IsDim d → b1 ≡ put_at (replicate 20 0) 0 d.name → b2 ≡ put_at b1 4 (i32_bytes d.start)
+pub record_written : (d : Dim) (b1 b2 b3 b4 b5 : List ℕ) → length d.name ≡ 4 → length d.coord ≡ 4 → b1 ≡ put_at (replicate 20 0) 0 d.name → b2 ≡ put_at b1 4 (i32_bytes d.start)
     → b3 ≡ put_at b2 8 (i32_bytes d.size) → b4 ≡ put_at b3 12 d.coord → b5 ≡ put_at b4 16 (i32_bytes d.stored) → b5 ≡ dim_bytes d
-record_written d b1 b2 b3 b4 b5 is e1 e2 e3 e4 e5 =
+record_written d b1 b2 b3 b4 b5 long wide e1 e2 e3 e4 e5 =
     e5 ∙ (ap (λ b. put_at b 16 (i32_bytes d.stored))
     (e4 ∙ ap (λ b. put_at b 12 d.coord)
     (e3 ∙ ap (λ b. put_at b 8 (i32_bytes d.size))
     (e2 ∙ ap (λ b. put_at b 4 (i32_bytes d.start)) e1)))
-    ∙ record_fields d.name d.coord d.start d.size d.stored is.name is.coord)
+    ∙ record_fields d.name d.coord d.start d.size d.stored long wide)
 
 head_fields : (info : EntryInfo) (position : ℤ) → length info.spare ≡ 5
     → put_at (put_at (put_at (put_at (put_at (put_at (put_at (put_at (replicate 32 0) 0 (codes "DV")) 2 (i32_bytes info.pixel)) 6 (i64_bytes position)) 14 (u32_bytes 0)) 18 (i32_bytes info.compression)) 22 (info.pyramid ∷ [])) 23 info.spare) 28 (u32_bytes (length info.dims))

@@ -1,11 +1,10 @@
 //! Entries that are written.
 
-ghost use Rattle.std.specs.Prelude.{◌≡◌, ℕ, ◌+◌, ◌-◌, ◌*◌, ◌^◌, ◌≤◌, ◌++◌, List, Some, FitsSigned, length, map, take, flat_map};
-ghost use Rattle.std.specs.Int.{w32};
+ghost use Rattle.std.specs.Prelude.{◌≡◌, ℕ, ◌+◌, ◌-◌, ◌*◌, ◌^◌, ◌≤◌, ◌++◌, List, Some, length, map, take, flat_map};
 ghost use Rattle.std.specs.List.{AllByRecursion};
 ghost use Rattle.czi_format.specs.Contents.{entry_count, directory_head};
-ghost use Rattle.czi_format.specs.Entry.{EntryBytes, IsDim, dim_bytes, entry, entry_bytes, head_bytes, info_len};
-ghost use Rattle.czi_doc.specs.View.{dim_of, info_of};
+ghost use Rattle.czi_format.specs.Entry.{EntryBytes, IsDim, IsEntryInfo, dim_bytes, entry, entry_bytes, head_bytes, info_len};
+ghost use Rattle.czi_doc.specs.View.{dim_of, dims_of, info_of};
 
 use czi_doc::{Dim, EntryInfo};
 use czi_num::{write_bytes, write_i32, write_i64, write_u32};
@@ -31,7 +30,7 @@ pub fn write_entry(info: &EntryInfo, position: i64, out: &mut [u8])
 /// The first 32 bytes of an entry.
 fn entry_head(info: &EntryInfo, position: i64) -> [u8; 32]
     ensures written { result ≡ head_bytes (info_of info.now) position }
-    ensures ranges { FitsSigned w32 info.now.pixel × FitsSigned w32 info.now.compression × (length info.now.spare ≡ 5) }
+    ensures is { AllByRecursion IsDim (dims_of info.now.dims) → IsEntryInfo (info_of info.now) }
 {
     let mut head = [0u8; 32];
     write_bytes(&mut head, 0, b"DV");

@@ -6,7 +6,7 @@ use Rattle.std.proofs.Math.Facts.{sfits_to_z}
 use Rattle.std.specs.Int.{from_le_bytes, w32, w64}
 use Rattle.std.specs.List.{AllByRecursion}
 use Rattle.std.specs.Prelude.{FitsSigned}
-use Rattle.czi_format.specs.Bytes.{IsBytes, bytes_at, i32_at, i64_at}
+use Rattle.czi_format.specs.Bytes.{IsBytes, bytes_at, byte_at, i32_at, i64_at}
 use Rattle.std.specs.Option.{ok_or}
 use Rattle.czi_format.specs.Partial.{natural}
 use Rattle.czi_format.specs.FirstFault.{one_after_another}
@@ -60,9 +60,11 @@ dim_is : (bytes : List ℕ) → IsBytes bytes → 20 ≤ length bytes → IsDim 
 unfolding dim
 dim_is bytes is long = record {
   name = length-bytes_at bytes 0 4 (omega arith);
+  name_bytes = part_bytes bytes 0 4 is;
   start = i32_fits bytes 4 is;
   size = i32_fits bytes 8 is;
   coord = length-bytes_at bytes 12 4 (omega arith);
+  coord_bytes = part_bytes bytes 12 4 is;
   stored = i32_fits bytes 16 is;
 }
 
@@ -74,7 +76,7 @@ dims_are (suc n) bytes is long =
     ((dim_is bytes is (omega arith), rest.0), ap suc rest.1)
 
 pub entry_is : (bytes : List ℕ) (e : Entry) → IsBytes bytes → entry bytes ≡ Some e → IsEntry e
-unfolding entry
+unfolding entry byte_at
 entry_is bytes e is found =
     let c = bind_some (natural (i32_at bytes 28)) _ e found in
     let p = bind_some (natural (i32_at bytes 14)) _ e c.2 in
@@ -90,7 +92,9 @@ entry_is bytes e is found =
       info = record {
         pixel = i32_fits bytes 2 is;
         compression = i32_fits bytes 18 is;
+        pyramid = is 22;
         spare = length-bytes_at bytes 23 5 (omega (arith, long));
+        spare_bytes = part_bytes bytes 23 5 is;
         some = omega (arith, some, ds.1);
         few = omega (arith, few, ds.1);
         dims = ds.0;
@@ -98,15 +102,18 @@ entry_is bytes e is found =
       position = i64_fits bytes 6 is;
     })
 
-pub a1_is : (bytes : List ℕ) (a : A1) → a1 bytes ≡ Some a → IsAttInfo a.info
+pub a1_is : (bytes : List ℕ) (a : A1) → IsBytes bytes → a1 bytes ≡ Some a → IsAttInfo a.info
 unfolding a1
-a1_is bytes a found =
+a1_is bytes a is found =
     let g = given_some (bytes_eq (bytes_at bytes 0 2) (codes "A1") && nat_le 128 (length bytes)) _ a found in
     let long : 128 ≤ length bytes = leb-true _ _ (both_true (bytes_eq (bytes_at bytes 0 2) (codes "A1")) (nat_le 128 (length bytes)) g.0).1 in
     subst (λ (z : A1). IsAttInfo z.info) g.1 (record {
       guid = length-bytes_at bytes 24 16 (omega (arith, long));
+      guid_bytes = part_bytes bytes 24 16 is;
       kind = length-bytes_at bytes 40 8 (omega (arith, long));
+      kind_bytes = part_bytes bytes 40 8 is;
       name = length-bytes_at bytes 48 80 (omega (arith, long));
+      name_bytes = part_bytes bytes 48 80 is;
     })
 
 -- what each reading has, each item of a sequence has
@@ -135,7 +142,7 @@ a1_entries_are : (image : List ℕ) (dir : Option Directory) (es : List A1) → 
 a1_entries_are image None [] is e = (tt, refl)
 a1_entries_are image None (x ∷ es) is e = cc
 a1_entries_are image (Some d) es is e =
-    sequence_all a1 a1_len (λ at. at) (λ (a : A1). IsAttInfo a.info) (λ bytes a _ found. a1_is bytes a found) d.count (d.segment.at + 288) (drop 256 (data_of image d.segment)) es
+    sequence_all a1 a1_len (λ at. at) (λ (a : A1). IsAttInfo a.info) a1_is d.count (d.segment.at + 288) (drop 256 (data_of image d.segment)) es
     (drop_bytes (data_of image d.segment) 256 (part_bytes image (d.segment.at + 32) d.segment.allocated is)) e
 
 all_infos : (image : List ℕ) (ts : List Tile) → AllByRecursion IsEntry (map (λ (t : Tile). t.entry) ts) → AllByRecursion (λ (s : Subblock). IsEntryInfo s.info) (map (subblock_of image) ts)

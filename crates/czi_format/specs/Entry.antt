@@ -1,9 +1,9 @@
 -- The entries of the two directories: `DV` for a subblock, `A1` for an attachment. An entry is read from the
 -- front of a byte list.
-use Rattle.std.specs.Prelude.{◌≡◌, ℕ, zero, suc, ◌+◌, ◌*◌, ℤ, pos, List, [], ◌∷◌, drop, length, codes, ◌&&◌, ◌==◌, nat_le, ◌≤◌, ◌++◌, Option, Some, replicate, bytes_eq, FitsSigned, flat_map}
+use Rattle.std.specs.Prelude.{◌≡◌, ℕ, zero, suc, ◌+◌, ◌*◌, ℤ, pos, List, [], ◌∷◌, drop, length, codes, ◌&&◌, ◌==◌, nat_le, ◌≤◌, ◌<◌, ◌++◌, Option, Some, replicate, bytes_eq, FitsSigned, flat_map}
 use Rattle.std.specs.Int.{w32, w64}
 use Rattle.std.specs.List.{AllByRecursion}
-use Rattle.czi_format.specs.Bytes.{bytes_at, byte_at, i32_at, i64_at, i32_bytes, i64_bytes}
+use Rattle.czi_format.specs.Bytes.{IsBytes, bytes_at, byte_at, i32_at, i64_at, i32_bytes, i64_bytes}
 use Rattle.czi_format.specs.Partial.{◌>>=◌, natural, given}
 
 -- one dimension of a subblock: its name, where it starts, its size, and the size as stored (0 reads as size)
@@ -78,18 +78,22 @@ head_bytes info position = codes "DV" ++ (i32_bytes info.pixel ++ (i64_bytes pos
 abbrev pub entry_bytes : Entry → List ℕ
 entry_bytes e = head_bytes e.info e.position ++ flat_map dim_bytes e.info.dims
 
--- what can be written: each field has its length and range
+-- what can be written: each field has its length and range, and bytes are below 256
 pub record IsDim (d : Dim) : Type 0 where
   pub name : length d.name ≡ 4
+  pub name_bytes : IsBytes d.name
   pub start : FitsSigned w32 d.start
   pub size : FitsSigned w32 d.size
   pub coord : length d.coord ≡ 4
+  pub coord_bytes : IsBytes d.coord
   pub stored : FitsSigned w32 d.stored
 
 pub record IsEntryInfo (info : EntryInfo) : Type 0 where
   pub pixel : FitsSigned w32 info.pixel
   pub compression : FitsSigned w32 info.compression
+  pub pyramid : info.pyramid < 256
   pub spare : length info.spare ≡ 5
+  pub spare_bytes : IsBytes info.spare
   pub some : 1 ≤ length info.dims
   pub few : length info.dims ≤ 40
   pub dims : AllByRecursion IsDim info.dims
@@ -108,11 +112,14 @@ pub record AttInfo : Type 0 where
   pub kind : List ℕ
   pub name : List ℕ
 
--- each field has its length
+-- each field has its length, and bytes are below 256
 pub record IsAttInfo (info : AttInfo) : Type 0 where
   pub guid : length info.guid ≡ 16
+  pub guid_bytes : IsBytes info.guid
   pub kind : length info.kind ≡ 8
+  pub kind_bytes : IsBytes info.kind
   pub name : length info.name ≡ 80
+  pub name_bytes : IsBytes info.name
 
 -- an A1 entry: what it says of an attachment, and the position of the attachment's segment
 pub record A1 : Type 0 where

@@ -1,5 +1,5 @@
 ghost use Rattle.std.specs.Prelude.{◌≡◌, ◌≤◌, ◌+◌, length};
-ghost use Rattle.czi_format.specs.Bytes.{SameBeside, bytes_at, i32_at, i32_bytes, i64_at, i64_bytes, put_at, u16_at, u16_bytes, u32_at, u32_bytes, u64_at, u64_bytes};
+ghost use Rattle.czi_format.specs.Bytes.{IsBytes, SameBeside, bytes_at, i32_at, i32_bytes, i64_at, i64_bytes, put_at, u16_at, u16_bytes, u32_at, u32_bytes, u64_at, u64_bytes};
 
 use byteorder::{ByteOrder, LittleEndian};
 
@@ -62,6 +62,7 @@ pub fn write_bytes(bytes: &mut [u8], at: usize, new: &[u8])
     ensures written { bytes.new ≡ put_at bytes.old at new.now }
     ensures reads_back { bytes_at bytes.new at (length new.now) ≡ new.now }
     ensures others { SameBeside at (length new.now) bytes.old bytes.new }
+    ensures below_256 { IsBytes new.now }
 {
     bytes[at..at + new.len()].copy_from_slice(new);
 }

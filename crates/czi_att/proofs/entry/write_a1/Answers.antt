@@ -10,7 +10,14 @@ use Rattle.czi_att.proofs.entry.write_a1.Goals as goal
 pub returns : goal.returns
 returns c =
     let a : A1 = record { info = att_of c.args.info.now; position = c.args.position } in
-    let is : IsAttInfo a.info = record { guid = search rules; kind = search rules; name = search rules } in
+    let is : IsAttInfo a.info = record {
+      guid = search rules;
+      guid_bytes = c.write_bytes-2.ensures.below_256;
+      kind = search rules;
+      kind_bytes = c.write_bytes-3.ensures.below_256;
+      name = search rules;
+      name_bytes = c.write_bytes-4.ensures.below_256;
+    } in
     let place : cast_signed w64 (cast_unsigned w64 c.args.position) ≡ c.args.position = to_z-of_z w64 c.args.position c.ranges.position in
     let written : c.write_bytes-4.new.bytes ≡ a1_bytes a =
     a1_written a.info (cast_signed w64 (cast_unsigned w64 c.args.position)) c.write_bytes.new.bytes c.write_i64.new.bytes c.write_bytes-2.new.bytes c.write_bytes-3.new.bytes c.write_bytes-4.new.bytes is

@@ -1,13 +1,27 @@
-use Rattle.std.proofs.Common.{◌≡◌, ◌∙◌, ap, length, rules}
+use Rattle.std.proofs.Common.{◌≡◌, ◌∙◌, ap, sym, length, arith, rules}
 use Rattle.std.proofs.lemmas.Int.{to_z-of_z}
 use Rattle.std.proofs.lemmas.List.{length-map}
 use Rattle.std.specs.Int.{cast_signed, cast_unsigned, w32, w64}
 use Rattle.std.specs.Prelude.{FitsSigned}
-use Rattle.czi_doc.specs.View.{info_of, records}
+use Rattle.czi_doc.specs.View.{dim_of, dims_of, info_of, records}
 use Rattle.czi_format.specs.Bytes.{put_at, u32_bytes}
 use Rattle.czi_format.specs.Entry.{EntryInfo, head_bytes}
 use Rattle.czi_dv.proofs.Written.{head_written}
 use Rattle.czi_dv.proofs.writing.entry_head.Goals as goal
+
+pub returns-clause-is : goal.returns-clause-is
+returns-clause-is c = λ dims.
+    let count : length c.list.result.now ≡ length (dims_of c.args.info.now.dims) = ap length c.list.ensures.list ∙ sym (length-map _ dim_of) in
+    record {
+      pixel = search rules;
+      compression = search rules;
+      pyramid = c.write_bytes-2.ensures.below_256 0;
+      spare = search rules;
+      spare_bytes = c.write_bytes-3.ensures.below_256;
+      some = omega (arith, count, c.list.ensures.some);
+      few = omega (arith, count, c.list.ensures.few);
+      dims = dims;
+    }
 
 pub returns-clause-written : goal.returns-clause-written
 returns-clause-written c =

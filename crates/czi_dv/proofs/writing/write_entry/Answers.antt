@@ -1,6 +1,5 @@
-use Rattle.std.proofs.Common.{◌≡◌, ◌≤◌, ◌∙◌, ◌++◌, ap, length, map, take, subst, sym, rules}
+use Rattle.std.proofs.Common.{◌≡◌, ◌∙◌, ◌++◌, ap, length, map, take, subst, rules}
 use Rattle.std.proofs.lemmas.Int.{to_z-of_z}
-use Rattle.std.proofs.lemmas.List.{length-map}
 use Rattle.std.specs.Int.{cast_signed, cast_unsigned, w64}
 use Rattle.std.specs.List.{AllByRecursion, flat_map}
 use Rattle.czi_doc.specs.View.{dim_of, info_of}
@@ -16,16 +15,8 @@ returns c =
     let written : c.write_dims.new.out ≡ entry_bytes x = entry_written x c.args.out.now c.write_bytes.new.bytes c.entry_head.result c.write_dims.new.out long
     (c.entry_head.ensures.written ∙ ap (head_bytes x.info) place) c.write_bytes.ensures.written
     (c.write_dims.ensures.written ∙ ap (λ l. take 32 c.write_bytes.new.bytes ++ flat_map dim_bytes (map dim_of l)) c.list.ensures.list) in
-    let count : length x.info.dims ≡ length c.list.result.now = length-map _ dim_of ∙ ap length (sym c.list.ensures.list) in
     let is : IsEntry x = record {
-      info = record {
-        pixel = c.entry_head.ensures.ranges.0;
-        compression = c.entry_head.ensures.ranges.1;
-        spare = c.entry_head.ensures.ranges.2;
-        some = subst (λ n. 1 ≤ n) (sym count) c.list.ensures.some;
-        few = subst (λ n. n ≤ 40) (sym count) c.list.ensures.few;
-        dims = subst (λ l. AllByRecursion IsDim (map dim_of l)) c.list.ensures.list c.write_dims.ensures.records;
-      };
+      info = c.entry_head.ensures.is (subst (λ l. AllByRecursion IsDim (map dim_of l)) c.list.ensures.list c.write_dims.ensures.records);
       position = c.ranges.position;
     } in
     record {
