@@ -1,5 +1,5 @@
 -- What brings a former document back still does, where the bytes of held items are the same.
-use Rattle.std.proofs.Common.{◌≡◌, ℕ, zero, suc, ◌+◌, ◌-◌, List, [], ◌∷◌, ◌++◌, take, Bool, true, false, not, Option, Some, None, option_to_list, refl, ap, sym, ◌∙◌, arith, subst, inl, inr}
+use Rattle.std.proofs.Common.{◌≡◌, ℕ, zero, suc, ◌+◌, ◌-◌, List, [], ◌∷◌, ◌++◌, take, Bool, true, false, not, Option, Some, option_to_list, refl, ap, sym, ◌∙◌, arith, subst, inl, inr}
 use Rattle.std.specs.List.{AllByRecursion, filter, list_any}
 use Rattle.std.proofs.lemmas.Bool.{cases_Bool}
 use Rattle.czi_format.specs.Bytes.{bytes_at}
@@ -14,7 +14,7 @@ use Rattle.czi_machine.specs.Edit.{after}
 use Rattle.czi_machine.specs.Formers.{Lain, tile_place, attachment_place, metadata_place, Return, return_items, brought_back, LiesHeld, BringBack}
 use Rattle.czi_machine.specs.State.{Items, Former, held_by, item_places, item_spans, spans_of, not_among}
 use Rattle.czi_machine.proofs.Steady.{on_all}
-use Rattle.czi_machine.proofs.Tiled.{All-map, All-weaken}
+use Rattle.czi_machine.proofs.Tiled.{All-map, All-weaken, map-All}
 
 -- the bytes of a span behind the first 32 are the same
 abbrev pub SameBehind : List ℕ → List ℕ → Span → Type 0
@@ -56,14 +56,12 @@ same_mapped f g (keep ∷ c) all = ap (λ l. keep ∷ l) (same_mapped f g c all)
 same_mapped f g (omit ∷ c) all = ap (λ l. omit ∷ l) (same_mapped f g c all)
 
 pub same_mapped_setting : {X Y : Type 0} (f g : X → Y) (c : Setting X) → AllByRecursion (λ x. f x ≡ g x) (option_to_list (set_new c)) → mapped_setting f c ≡ mapped_setting g c
-same_mapped_setting f g same all = refl
-same_mapped_setting f g (to None) all = refl
 same_mapped_setting f g (to (Some x)) all = ap (λ y. to (Some y)) all.0
+same_mapped_setting f g c all = refl
 
 set_brought : {X Y : Type 0} (f : X → Y) (P : Y → Type 0) (c : Setting X) (old : Option Y) → AllByRecursion P (option_to_list (set (mapped_setting f c) old)) → AllByRecursion (λ x. P (f x)) (option_to_list (set_new c))
-set_brought f P same old all = tt
-set_brought f P (to None) old all = tt
 set_brought f P (to (Some x)) old all = (all.0, tt)
+set_brought f P c old all = tt
 
 -- what holds of the spans that a former has and the newer one hasn't holds of the items that are brought back
 pub record HasBack (P : Span → Type 0) (r : Return) : Type 0 where
@@ -112,7 +110,7 @@ same_brought_back image other newer r alike =
     (All-weaken (λ (y : Lain AttItem). data_of other y.item.segment ≡ data_of image y.item.segment) _ (λ y d. cc (d)) (brought r.attachments) alike.attachments) in
     let metadata = same_mapped_setting (λ (y : Lain MetaItem). metadata_of image y.item) (λ (y : Lain MetaItem). metadata_of other y.item) r.metadata
     (All-weaken (λ (y : Lain MetaItem). data_of other y.item.segment ≡ data_of image y.item.segment) _ (λ y d. cc (d)) (option_to_list (set_new r.metadata)) alike.metadata) in
-    λ i. record { document = after (record { subblocks = tiles i; attachments = attachments i; metadata = metadata i }) newer.document; items = return_items r newer.items }
+    λ i. record { document = after (record { subblocks = tiles i; attachments = attachments i; metadata = metadata i }) newer.document; items = return_items r newer.items; edits = r.edits }
 
 same_held : (image other : List ℕ) (newer : Items) (r : Return) → LiesHeld image newer r → SameReturn image other r → LiesHeld other newer r
 same_held image other newer r lies alike = record {
@@ -125,22 +123,17 @@ same_held image other newer r lies alike = record {
 pub bring_back_same : (image other : List ℕ) (newer : Former) (returns : List Return) (formers : List Former) → AllByRecursion (SameBehind image other) (spans_of (held_by newer.items formers))
     → BringBack image newer returns formers → BringBack other newer returns formers
 bring_back_same image other newer [] [] alike b = tt
-bring_back_same image other newer [] (f ∷ formers) alike b = absurd b
-bring_back_same image other newer (r ∷ returns) [] alike b = absurd b
 bring_back_same image other newer (r ∷ returns) (f ∷ formers) alike b =
     let own : List Place = not_among (item_spans newer.items) (item_places f.items) in
     let places : AllByRecursion (λ (p : Place). SameBehind image other p.span) (own ++ held_by f.items formers) = All-map (λ (p : Place). p.span) (SameBehind image other) (own ++ held_by f.items formers) alike in
     let parts = All-append (λ (p : Place). SameBehind image other p.span) own (held_by f.items formers) places in
     let items : f.items ≡ return_items r newer.items = ap (λ (z : Former). z.items) b.0 in
     let first : AllByRecursion (SameBehind image other) (spans_of (not_among (item_spans newer.items) (item_places (return_items r newer.items)))) =
-    spans_all (not_among (item_spans newer.items) (item_places (return_items r newer.items)))
+    map-All (λ (p : Place). p.span) (SameBehind image other) (not_among (item_spans newer.items) (item_places (return_items r newer.items)))
     (subst (λ z. AllByRecursion (λ (p : Place). SameBehind image other p.span) (not_among (item_spans newer.items) (item_places z))) items parts.0) in
     let ret : SameReturn image other r = same_return image other newer.items r b.1 first in
-    (b.0 ∙ same_brought_back image other newer r ret, same_held image other newer.items r b.1 ret, bring_back_same image other f returns formers (spans_all (held_by f.items formers) parts.1) b.2)
-  where
-    spans_all : (ps : List Place) → AllByRecursion (λ (p : Place). SameBehind image other p.span) ps → AllByRecursion (SameBehind image other) (spans_of ps)
-    spans_all [] all = tt
-    spans_all (p ∷ ps) all = (all.0, spans_all ps all.1)
+    (b.0 ∙ same_brought_back image other newer r ret, same_held image other newer.items r b.1 ret, bring_back_same image other f returns formers (map-All (λ (p : Place). p.span) (SameBehind image other) (held_by f.items formers) parts.1) b.2)
+bring_back_same image other newer returns formers alike b = absurd b
 
 -- fewer of them bring back fewer
 pub bring_back_fewer : (image : List ℕ) (newer : Former) (returns : List Return) (formers : List Former) (n : ℕ) → BringBack image newer returns formers → BringBack image newer (take n returns) (take n formers)

@@ -4,7 +4,7 @@ use Rattle.std.specs.List.{AllByRecursion}
 use Rattle.std.proofs.lemmas.Bool.{cases_lt}
 use Rattle.std.proofs.lemmas.List.{map-append}
 use Rattle.czi_format.specs.Bytes.{bytes_at}
-use Rattle.czi_format.specs.Live.{Live, Directory, Tile, AttItem, MetaItem, segments, reached}
+use Rattle.czi_format.specs.Live.{Live, FileHeader, Directory, Tile, AttItem, MetaItem, segments, reached}
 use Rattle.czi_format.specs.Same.{SameExtent}
 use Rattle.czi_format.specs.Segment.{Segment, segment_at, extent, file_id}
 use Rattle.czi_format.specs.Shows.{Reaches}
@@ -13,7 +13,7 @@ use Rattle.czi_format.specs.Walk.{stands_at, is_name}
 use Rattle.czi_format.proofs.Local.{All-append, header_is}
 use Rattle.czi_format.proofs.Readings.{bind_some, given_some, is_sound, segment_stands}
 use Rattle.czi_machine.specs.Change.{Act, changed, kept, brought, Setting, same, to, set, set_new, set_kept}
-use Rattle.czi_machine.specs.Cover.{between, cover}
+use Rattle.czi_machine.specs.Cover.{between, cover, IsWhole}
 use Rattle.czi_machine.specs.Turn.{Turn, turned, new_segments, kept_segments}
 use Rattle.czi_machine.specs.Writes.{head, IsLong, AreOnce, writable, WritesIn}
 use Rattle.czi_machine.specs.Written.{Piece, byte_of, IsClear, Wrote}
@@ -21,10 +21,10 @@ use Rattle.czi_machine.proofs.Changing.{All-kept, cover-changed}
 use Rattle.czi_machine.proofs.Cover.{between_in, between_low, between_high, cover-append}
 use Rattle.czi_machine.proofs.LiveStand.{StandsLive, live_stands}
 use Rattle.czi_machine.proofs.Outside.{places_among}
-use Rattle.czi_machine.proofs.Over.{clear_bytes}
+use Rattle.czi_machine.proofs.Over.{clear_bytes, no_byte}
 use Rattle.czi_machine.proofs.Restated.{stands_inside, stands_same_header}
 use Rattle.czi_machine.proofs.Steady.{on_all}
-use Rattle.czi_machine.proofs.Tiled.{All-both, All-map, map-All, between_one}
+use Rattle.czi_machine.proofs.Tiled.{All-weaken, All-both, All-map, map-All, between_one}
 
 pub map-map : {X Y Z : Type 0} (f : X → Y) (g : Y → Z) (xs : List X) → map g (map f xs) ≡ map (λ x. g (f x)) xs
 map-map f g [] = refl
@@ -45,8 +45,7 @@ cover_list {X = X} f c xs p =
 cover_set : {X : Type 0} (f : X → Segment) (c : Setting X) (old : Option X) (p : ℕ)
     → cover (map extent (option_to_list (option_map f (set c old)))) p ≡ cover (map extent (option_to_list (option_map f (set_kept c old)))) p + cover (map extent (option_to_list (option_map f (set_new c)))) p
 cover_set f same None p = refl
-cover_set f same (Some x) p = omega arith
-cover_set f (to new) old p = omega arith
+cover_set f c old p = omega arith
 
 -- what is live afterwards: the file header, what is kept, and what is new
 pub turned_cover : (live : Live) (t : Turn) (p : ℕ) → cover (map extent (segments (turned t live))) p
@@ -109,22 +108,14 @@ writable_cover : (t : Turn) (marks : List Span) (p : ℕ) → AllByRecursion IsL
 writable_cover t marks p whole = omega (arith, cover-append (map extent (new_segments t)) (map head marks) p, heads_within marks p whole)
 
 -- a place that isn't writable isn't written
-pub nothing_written : (t : Turn) (marks : List Span) (pieces : List Piece) (q : ℕ) → WritesIn t marks pieces
+pub nothing_written : (h : FileHeader) (t : Turn) (marks : List Span) (pieces : List Piece) (q : ℕ) → WritesIn h t marks pieces
     → between 84 100 q + (between 104 112 q + (cover (map extent (new_segments t)) q + cover (map head marks) q)) ≡ 0 → byte_of pieces q ≡ None
-nothing_written t marks pieces q around none = on_byte (byte_of pieces q) refl
-  where
-    on_byte : (o : Option ℕ) → byte_of pieces q ≡ o → o ≡ None
-    on_byte None e = refl
-    on_byte (Some b) e = absurd (omega (arith, around.within q b e, cover-append (map extent (new_segments t)) (map head marks) q, none))
+nothing_written h t marks pieces q around none = no_byte (byte_of pieces q) (λ b e. omega (arith, around.within q b e, cover-append (map extent (new_segments t)) (map head marks) q, none))
 
 -- a place that is none of these isn't written
-pub not_written : (t : Turn) (marks : List Span) (pieces : List Piece) (q : ℕ) → WritesIn t marks pieces → AllByRecursion IsLong marks
+pub not_written : (h : FileHeader) (t : Turn) (marks : List Span) (pieces : List Piece) (q : ℕ) → WritesIn h t marks pieces → AllByRecursion IsLong marks
     → between 84 100 q + (between 104 112 q + (cover (map extent (new_segments t)) q + cover marks q)) ≡ 0 → byte_of pieces q ≡ None
-not_written t marks pieces q around whole none = on_byte (byte_of pieces q) refl
-  where
-    on_byte : (o : Option ℕ) → byte_of pieces q ≡ o → o ≡ None
-    on_byte None e = refl
-    on_byte (Some b) e = absurd (omega (arith, around.within q b e, writable_cover t marks q whole, none))
+not_written h t marks pieces q around whole none = no_byte (byte_of pieces q) (λ b e. omega (arith, around.within q b e, writable_cover t marks q whole, none))
 
 -- The file header stands at 0, with at least 80 bytes of data.
 pub record HeaderAt (image : List ℕ) (h : Segment) : Type 0 where
@@ -142,10 +133,10 @@ header_at_front image live reaches =
     record { place = sym first; large = head.1; inside = omega (arith, stands.inside, first) }
 
 -- the file header is written at its pointers alone
-pub header_clear : (image : List ℕ) (live : Live) (t : Turn) (marks : List Span) (pieces : List Piece) (from end : ℕ) → HeaderAt image live.header.segment → WritesIn t marks pieces → AreOnce live t marks
+pub header_clear : (image : List ℕ) (live : Live) (t : Turn) (marks : List Span) (pieces : List Piece) (from end : ℕ) → HeaderAt image live.header.segment → WritesIn live.header t marks pieces → AreOnce live t marks
     → end ≤ 112 → ((q : ℕ) → from ≤ q → q < end → between 84 100 q + between 104 112 q ≡ 0) → IsClear pieces from end
 header_clear image live t marks pieces from end at around once fits out q low high =
-    not_written t marks pieces q around once.long (omega (
+    not_written live.header t marks pieces q around once.long (omega (
       arith,
       out q low high,
       once.once q,
@@ -154,7 +145,7 @@ header_clear image live t marks pieces from end at around once fits out q low hi
     ))
 
 -- a segment that has no place with what is new, with DELETED extents or with the file header isn't written
-pub segment_clear : (image : List ℕ) (live : Live) (t : Turn) (marks : List Span) (pieces : List Piece) (s : Segment) → HeaderAt image live.header.segment → WritesIn t marks pieces → AreOnce live t marks
+pub segment_clear : (image : List ℕ) (live : Live) (t : Turn) (marks : List Span) (pieces : List Piece) (s : Segment) → HeaderAt image live.header.segment → WritesIn live.header t marks pieces → AreOnce live t marks
     → ((p : ℕ) → between s.at (end_of (extent s)) p + (between live.header.segment.at (end_of (extent live.header.segment)) p + (cover (map extent (new_segments t)) p + cover marks p)) ≤ 1)
     → IsClear pieces s.at (end_of (extent s)) × (112 ≤ s.at)
 segment_clear image live t marks pieces s at around once apart =
@@ -168,13 +159,13 @@ segment_clear image live t marks pieces s at around once apart =
       ))
       | inr h ↦ h
     ] in (
-      λ q l h. not_written t marks pieces q around once.long
+      λ q l h. not_written live.header t marks pieces q around once.long
           (omega (arith, apart q, between_in s.at (end_of (extent s)) q l h, between_high 84 100 q (omega (arith, low, l)), between_high 104 112 q (omega (arith, low, l)))),
       low,
     )
 
 -- so it is as before
-pub segment_kept : (image other : List ℕ) (live : Live) (t : Turn) (marks : List Span) (pieces : List Piece) (s : Segment) → HeaderAt image live.header.segment → WritesIn t marks pieces → AreOnce live t marks
+pub segment_kept : (image other : List ℕ) (live : Live) (t : Turn) (marks : List Span) (pieces : List Piece) (s : Segment) → HeaderAt image live.header.segment → WritesIn live.header t marks pieces → AreOnce live t marks
     → Wrote image other pieces → length image ≤ length other → end_of (extent s) ≤ length image
     → ((p : ℕ) → between s.at (end_of (extent s)) p + (between live.header.segment.at (end_of (extent live.header.segment)) p + (cover (map extent (new_segments t)) p + cover marks p)) ≤ 1)
     → SameExtent image other s
@@ -182,7 +173,7 @@ segment_kept image other live t marks pieces s at around once wrote longer insid
     let c = segment_clear image live t marks pieces s at around once apart in
     clear_bytes image other pieces s.at (32 + s.allocated) wrote c.0 inside (omega (arith, inside, longer)) (inr (omega (arith, c.1)))
 
-pub all_kept : (image other : List ℕ) (live : Live) (t : Turn) (marks : List Span) (pieces : List Piece) → Reaches image live → WritesIn t marks pieces → AreOnce live t marks
+pub all_kept : (image other : List ℕ) (live : Live) (t : Turn) (marks : List Span) (pieces : List Piece) → Reaches image live → WritesIn live.header t marks pieces → AreOnce live t marks
     → Wrote image other pieces → length image ≤ length other → AllByRecursion (SameExtent image other) (kept_segments t live)
 all_kept image other live t marks pieces reaches around once wrote longer =
     let at = header_at_front image live reaches in
@@ -205,3 +196,7 @@ stands_still image other pieces s wrote longer off there clear =
     let same_head : bytes_at image s.at 32 ≡ bytes_at other s.at 32 = clear_bytes image other pieces s.at 32 wrote clear (omega (arith, inside.1)) (omega (arith, inside.1, longer)) (inr off) in
     let here : segment_at other s.at ≡ Some s = stands_same_header image other s same_head (omega (arith, inside.1, longer)) found in
     rw (here, named)
+
+-- whole extents have room for a header
+pub whole_long : (es : List Span) → AllByRecursion IsWhole es → AllByRecursion IsLong es
+whole_long es all = All-weaken IsWhole IsLong (λ e w. omega (arith, w.len, w.some)) es all

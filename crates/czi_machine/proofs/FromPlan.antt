@@ -1,12 +1,15 @@
 -- The law of commands from their plans.
-use Rattle.std.proofs.Common.{◌≡◌, ℕ, ◌+◌, ◌-◌, ◌≤◌, ◌<◌, ◌^◌, pos, List, [], ◌∷◌, map, length, Some, None, option_map, option_to_list, refl, ap, sym, ◌∙◌, arith, inl, inr}
+use Rattle.czi_machine.proofs.Patched.{found_in, directory_patched, attdir_patched}
+use Rattle.czi_format.specs.Partial.{none_or}
+use Rattle.std.proofs.Common.{◌≡◌, ℕ, ◌+◌, ◌-◌, ◌≤◌, ◌<◌, ◌^◌, pos, List, [], ◌∷◌, map, length, Some, None, option_map, option_to_list, refl, ap, sym, ◌∙◌, arith, inl, inr, ℤ, Option, Ok, length-append}
 use Rattle.std.specs.List.{AllByRecursion}
 use Rattle.std.proofs.lemmas.Bool.{cases_lt}
 use Rattle.czi_format.specs.Document.{Subblock, Attachment, Metadata}
+use Rattle.czi_format.specs.Entry.{Entry, A1}
 use Rattle.czi_format.specs.Layout.{Layout}
-use Rattle.czi_format.specs.Live.{Live, Directory, Tile, AttItem, MetaItem, meta_item, segments, subblock_of, attachment_of, metadata_of}
-use Rattle.czi_format.specs.Segment.{Segment, extent, in_segment, attdir_id, attachment_id, metadata_id}
-use Rattle.czi_format.specs.Shows.{subblock_at, attachment_at}
+use Rattle.czi_format.specs.Live.{Live, Directory, Tile, AttItem, MetaItem, meta_item, segments, subblock_of, attachment_of, metadata_of, directory, attachment_directory}
+use Rattle.czi_format.specs.Segment.{Segment, extent, in_segment, attdir_id, attachment_id, metadata_id, directory_id, subblock_id}
+use Rattle.czi_format.specs.Shows.{subblock_at, attachment_at, Reaches, entries, a1_entries}
 use Rattle.czi_format.specs.Span.{Span, end_of}
 use Rattle.czi_format.proofs.Local.{All-append}
 use Rattle.czi_machine.specs.Change.{Act, keep, omit, bring, brought, mapped, Setting, same, to, set_new, mapped_setting}
@@ -21,18 +24,16 @@ use Rattle.czi_machine.specs.State.{State}
 use Rattle.czi_machine.specs.Turn.{Turn, turned, new_segments, effect_of, LiesAt, SpansAt}
 use Rattle.czi_machine.specs.Writes.{ReadsDirectory, ReadsAttdir, ReadsMetadata, Writes}
 use Rattle.czi_machine.specs.Written.{Piece, Wrote}
-use Rattle.czi_machine.proofs.AnyCommand.{all_spans, any_commanded}
+use Rattle.czi_machine.proofs.AnyCommand.{any_commanded, commanded}
+use Rattle.czi_machine.proofs.Exact.{sound_tidy}
+use Rattle.czi_machine.proofs.Lying.{all_spans, lies_loosely}
 use Rattle.czi_machine.proofs.Clear.{HeaderAt, header_at_front, turned_cover}
-use Rattle.czi_machine.proofs.Command.{Written, was_written, commanded}
-use Rattle.czi_machine.proofs.Cover.{between_in, between_high}
+use Rattle.czi_machine.proofs.Cover.{between_in}
 use Rattle.czi_machine.proofs.Follow.{spans_lie}
-use Rattle.czi_machine.proofs.Led.{stays_sound, stays_tidy}
-use Rattle.czi_machine.proofs.NewDirectory.{directory_read, attdir_read}
-use Rattle.czi_machine.proofs.NewItems.{subblock_read, attachment_read, metadata_read}
-use Rattle.czi_machine.proofs.NewSegment.{written_stands, held_stands, held_subblock, held_attachment, held_metadata}
+use Rattle.czi_machine.proofs.Led.{stays_sound, stays_tidy, led}
+use Rattle.czi_machine.proofs.NewSegment.{directory_read, attdir_read, subblock_read, attachment_read, metadata_read, written_stands, held_stands, held_subblock, held_attachment, held_metadata}
 use Rattle.czi_machine.proofs.Placing.{covers_own}
-use Rattle.czi_machine.proofs.Removal.{directory_long, subblock_long}
-use Rattle.czi_machine.proofs.Tiled.{All-map, All-weaken, between_one}
+use Rattle.czi_machine.proofs.Tiled.{All-map, All-weaken}
 
 -- behind the file header's part in use, and inside the image
 record HasPlace (n : ℕ) (x : Segment) : Type 0 where
@@ -88,6 +89,14 @@ new_parts n t all =
       metadata = four.1;
     }
 
+directory_long : length directory_id ≡ 16
+unfolding directory_id
+directory_long = refl
+
+subblock_long : length subblock_id ≡ 16
+unfolding subblock_id
+subblock_long = refl
+
 attachment_long : length attachment_id ≡ 16
 unfolding attachment_id
 attachment_long = refl
@@ -100,11 +109,27 @@ metadata_long : length metadata_id ≡ 16
 unfolding metadata_id
 metadata_long = refl
 
+-- padding makes data no shorter
+subblock_padded : (e : Entry) (s : Subblock) (padding : ℕ) → length (subblock_data e s 0) ≤ length (subblock_data e s padding)
+subblock_padded e s padding = simp length-append (omega arith)
+
+attachment_padded : (a : A1) (bytes : List ℕ) (padding : ℕ) → length (attachment_data a bytes 0) ≤ length (attachment_data a bytes padding)
+attachment_padded a bytes padding = simp length-append (omega arith)
+
+metadata_padded : (m : Metadata) (padding : ℕ) → length (metadata_data m 0) ≤ length (metadata_data m padding)
+metadata_padded m padding = simp length-append (omega arith)
+
+directory_padded : (es : List Entry) (padding : ℕ) → length (directory_data es 0) ≤ length (directory_data es padding)
+directory_padded es padding = simp length-append (omega arith)
+
+attdir_padded : (es : List A1) (padding : ℕ) → length (attdir_data es 0) ≤ length (attdir_data es padding)
+attdir_padded es padding = simp length-append (omega arith)
+
 -- each item is read
 tile_brought : (image other : List ℕ) (pieces : List Piece) (x : Tile) (s : Subblock) → Wrote image other pieces → length other < 2 ^ 63 → BringsTile image pieces x s → HasPlace (length other) x.segment
     → (subblock_at other x.entry ≡ Some x) × (subblock_of other x ≡ s)
 tile_brought image other pieces x s wrote small (inl w) at =
-    let room : HasRoom (length other) x.segment = record { id = ap length w.item.id ∙ subblock_long; far = at.far; inside = at.inside; small = small; sound = w.sound } in
+    let room : HasRoom (length other) x.segment = record { id = ap length w.item.id ∙ subblock_long; far = at.far; inside = at.inside; small = small; sound = omega (arith, w.used, w.puts.whole, subblock_padded x.entry s w.padding) } in
     subblock_read other x s w.padding (written_stands image other pieces x.segment (subblock_data x.entry s w.padding) wrote w.puts room) w.item
 tile_brought image other pieces x s wrote small (inr w) at =
     let room : HasRoom (length other) x.segment = record { id = ap length w.id ∙ subblock_long; far = at.far; inside = at.inside; small = small; sound = w.sound } in
@@ -114,7 +139,7 @@ tile_brought image other pieces x s wrote small (inr w) at =
 attachment_brought : (image other : List ℕ) (pieces : List Piece) (x : AttItem) (a : Attachment) → Wrote image other pieces → length other < 2 ^ 63 → BringsAttachment image pieces x a → HasPlace (length other) x.segment
     → (attachment_at other x.entry ≡ Some x) × (attachment_of other x ≡ a)
 attachment_brought image other pieces x a wrote small (inl w) at =
-    let room : HasRoom (length other) x.segment = record { id = ap length w.item.id ∙ attachment_long; far = at.far; inside = at.inside; small = small; sound = w.sound } in
+    let room : HasRoom (length other) x.segment = record { id = ap length w.item.id ∙ attachment_long; far = at.far; inside = at.inside; small = small; sound = omega (arith, w.used, w.puts.whole, attachment_padded x.entry a.bytes w.padding) } in
     attachment_read other x a w.padding (written_stands image other pieces x.segment (attachment_data x.entry a.bytes w.padding) wrote w.puts room) w.item
 attachment_brought image other pieces x a wrote small (inr w) at =
     let room : HasRoom (length other) x.segment = record { id = ap length w.id ∙ attachment_long; far = at.far; inside = at.inside; small = small; sound = w.sound } in
@@ -124,7 +149,7 @@ attachment_brought image other pieces x a wrote small (inr w) at =
 metadata_brought : (image other : List ℕ) (pieces : List Piece) (x : MetaItem) (m : Metadata) → Wrote image other pieces → length other < 2 ^ 63 → BringsMetadata image pieces x m → HasPlace (length other) x.segment
     → (in_segment other metadata_id (pos x.segment.at) meta_item ≡ Some x) × (metadata_of other x ≡ m)
 metadata_brought image other pieces x m wrote small (inl w) at =
-    let room : HasRoom (length other) x.segment = record { id = ap length w.item.id ∙ metadata_long; far = at.far; inside = at.inside; small = small; sound = w.sound } in
+    let room : HasRoom (length other) x.segment = record { id = ap length w.item.id ∙ metadata_long; far = at.far; inside = at.inside; small = small; sound = omega (arith, w.used, w.puts.whole, metadata_padded m w.padding) } in
     metadata_read other x m w.padding (written_stands image other pieces x.segment (metadata_data m w.padding) wrote w.puts room) w.item
 metadata_brought image other pieces x m wrote small (inr w) at =
     let room : HasRoom (length other) x.segment = record { id = ap length w.id ∙ metadata_long; far = at.far; inside = at.inside; small = small; sound = w.sound } in
@@ -135,54 +160,53 @@ metadata_brought image other pieces x m wrote small (inr w) at =
 brings_read : {X Y : Type 0} (P : X → Y → Type 0) (Q R : X → Type 0) (read : X → Y) → ((x : X) (y : Y) → P x y → R x → Q x × (read x ≡ y)) → (c : List (Act X)) (d : List (Act Y)) → Brings P c d → AllByRecursion R (brought c)
     → AllByRecursion Q (brought c) × (mapped read c ≡ d)
 brings_read P Q R read f [] [] b r = (tt, refl)
-brings_read P Q R read f [] (y ∷ d) b r = absurd b
-brings_read P Q R read f (x ∷ c) [] b r = absurd b
 brings_read P Q R read f (keep ∷ c) (keep ∷ d) b r = let rest = brings_read P Q R read f c d b r in (rest.0, ap (λ z. keep ∷ z) rest.1)
-brings_read P Q R read f (keep ∷ c) (omit ∷ d) b r = absurd b
-brings_read P Q R read f (keep ∷ c) (bring y ∷ d) b r = absurd b
-brings_read P Q R read f (omit ∷ c) (keep ∷ d) b r = absurd b
 brings_read P Q R read f (omit ∷ c) (omit ∷ d) b r = let rest = brings_read P Q R read f c d b r in (rest.0, ap (λ z. omit ∷ z) rest.1)
-brings_read P Q R read f (omit ∷ c) (bring y ∷ d) b r = absurd b
-brings_read P Q R read f (bring x ∷ c) (keep ∷ d) b r = absurd b
-brings_read P Q R read f (bring x ∷ c) (omit ∷ d) b r = absurd b
 brings_read P Q R read f (bring x ∷ c) (bring y ∷ d) b r = let one = f x y b.0 r.0 in let rest = brings_read P Q R read f c d b.1 r.1 in ((one.0, rest.0), λ i. bring (one.1 i) ∷ rest.1 i)
+brings_read P Q R read f c d b r = absurd b
 
 metadata_read_new : (image other : List ℕ) (pieces : List Piece) (c : Setting MetaItem) (d : Setting Metadata) → Wrote image other pieces → length other < 2 ^ 63 → Sets (BringsMetadata image pieces) c d
     → AllByRecursion (HasPlace (length other)) (option_to_list (option_map (λ (m : MetaItem). m.segment) (set_new c))) → ReadsMetadata other c × (mapped_setting (metadata_of other) c ≡ d)
 metadata_read_new image other pieces same same wrote small b r = (tt, refl)
-metadata_read_new image other pieces same (to d) wrote small b r = absurd b
-metadata_read_new image other pieces (to c) same wrote small b r = absurd b
 metadata_read_new image other pieces (to None) (to None) wrote small b r = (tt, refl)
-metadata_read_new image other pieces (to None) (to (Some m)) wrote small b r = absurd b
-metadata_read_new image other pieces (to (Some x)) (to None) wrote small b r = absurd b
 metadata_read_new image other pieces (to (Some x)) (to (Some m)) wrote small b r =
     let one = metadata_brought image other pieces x m wrote small b r.0 in (one.0, ap (λ z. to (Some z)) one.1)
+metadata_read_new image other pieces c d wrote small b r = absurd b
 
 -- and the directories
-lists_tiles : (image other : List ℕ) (pieces : List Piece) (c : Setting Directory) (old new : List Tile) → Wrote image other pieces → length other < 2 ^ 63 → ListsTiles pieces c old new
+lists_tiles : (image other : List ℕ) (position : ℤ) (pieces : List Piece) (c : Setting Directory) (was : Option Directory) (old new : List Tile) → none_or position (in_segment image directory_id position directory) ≡ Some was
+    → entries image was ≡ Ok (map (λ (x : Tile). x.entry) old) → Wrote image other pieces → length image ≤ length other → length other < 2 ^ 63 → ListsTiles pieces c was old new
     → AllByRecursion (HasPlace (length other)) (option_to_list (option_map (λ (d : Directory). d.segment) (set_new c))) → ReadsDirectory other c old new
-lists_tiles image other pieces same old new wrote small w r = w
-lists_tiles image other pieces (to None) old new wrote small w r = w
-lists_tiles image other pieces (to (Some d)) old new wrote small w r =
-    let room : HasRoom (length other) d.segment = record { id = ap length w.id ∙ directory_long; far = r.0.far; inside = r.0.inside; small = small; sound = w.sound } in
+lists_tiles image other position pieces (to (Some d)) was old new found read wrote longer small (inl w) r =
+    let room : HasRoom (length other) d.segment = record { id = ap length w.id ∙ directory_long; far = r.0.far; inside = r.0.inside; small = small; sound = omega (arith, w.used, w.puts.whole, directory_padded (map (λ (x : Tile). x.entry) new) w.padding) } in
     let es = map (λ (x : Tile). x.entry) new in
-    let read = directory_read other d es w.padding (written_stands image other pieces d.segment (directory_data es w.padding) wrote w.puts room) w.id w.room w.count w.few w.entries in
-    (read.0, omega (arith, w.count, w.few), read.1)
+    let reads = directory_read other d es w.padding (written_stands image other pieces d.segment (directory_data es w.padding) wrote w.puts room) w.id w.room w.count w.few w.entries in
+    (reads.0, omega (arith, w.count, w.few), reads.1)
+lists_tiles image other position pieces (to (Some d)) None old new found read wrote longer small (inr w) r = absurd w
+lists_tiles image other position pieces (to (Some d)) (Some was) old new found read wrote longer small (inr w) r =
+    let reads = directory_patched image other position pieces was d (map (λ (x : Tile). x.entry) old) (map (λ (x : Tile). x.entry) new) (found_in position _ was found) read wrote longer small r.0.far w.0 w.1 in
+    (reads.0, omega (arith, w.1.count, w.0), reads.1)
+lists_tiles image other position pieces c was old new found read wrote longer small w r = w
 
-lists_attachments : (image other : List ℕ) (pieces : List Piece) (c : Setting Directory) (old new : List AttItem) → Wrote image other pieces → length other < 2 ^ 63 → ListsAttachments pieces c old new
+lists_attachments : (image other : List ℕ) (position : ℤ) (pieces : List Piece) (c : Setting Directory) (was : Option Directory) (old new : List AttItem) → none_or position (in_segment image attdir_id position attachment_directory) ≡ Some was
+    → a1_entries image was ≡ Ok (map (λ (x : AttItem). x.entry) old) → Wrote image other pieces → length image ≤ length other → length other < 2 ^ 63 → ListsAttachments pieces c was old new
     → AllByRecursion (HasPlace (length other)) (option_to_list (option_map (λ (d : Directory). d.segment) (set_new c))) → ReadsAttdir other c old new
-lists_attachments image other pieces same old new wrote small w r = w
-lists_attachments image other pieces (to None) old new wrote small w r = w
-lists_attachments image other pieces (to (Some d)) old new wrote small w r =
-    let room : HasRoom (length other) d.segment = record { id = ap length w.id ∙ attdir_long; far = r.0.far; inside = r.0.inside; small = small; sound = w.sound } in
+lists_attachments image other position pieces (to (Some d)) was old new found read wrote longer small (inl w) r =
+    let room : HasRoom (length other) d.segment = record { id = ap length w.id ∙ attdir_long; far = r.0.far; inside = r.0.inside; small = small; sound = omega (arith, w.used, w.puts.whole, attdir_padded (map (λ (x : AttItem). x.entry) new) w.padding) } in
     let es = map (λ (x : AttItem). x.entry) new in
-    let read = attdir_read other d es w.padding (written_stands image other pieces d.segment (attdir_data es w.padding) wrote w.puts room) w.id w.room w.count w.few w.entries in
-    (read.0, omega (arith, w.count, w.few), read.1)
+    let reads = attdir_read other d es w.padding (written_stands image other pieces d.segment (attdir_data es w.padding) wrote w.puts room) w.id w.room w.count w.few w.entries in
+    (reads.0, omega (arith, w.count, w.few), reads.1)
+lists_attachments image other position pieces (to (Some d)) None old new found read wrote longer small (inr w) r = absurd w
+lists_attachments image other position pieces (to (Some d)) (Some was) old new found read wrote longer small (inr w) r =
+    let reads = attdir_patched image other position pieces was d (map (λ (x : AttItem). x.entry) old) (map (λ (x : AttItem). x.entry) new) (found_in position _ was found) read wrote longer small r.0.far w.0 w.1 in
+    (reads.0, omega (arith, w.1.count, w.0), reads.1)
+lists_attachments image other position pieces c was old new found read wrote longer small w r = w
 
 -- What a plan brings is read, and it is what the effect brings.
-reads_plan : (image other : List ℕ) (l l' : Layout) (live : Live) (e : DocumentEffect) (t : Turn) (pieces : List Piece) → Plans image l l' live e t pieces → Wrote image other pieces → length other ≡ l'.length
+reads_plan : (image other : List ℕ) (l l' : Layout) (live : Live) (e : DocumentEffect) (t : Turn) (pieces : List Piece) → Reaches image live → length image ≤ l'.length → Plans image l l' live e t pieces → Wrote image other pieces → length other ≡ l'.length
     → AllByRecursion (HasPlace (length other)) (new_segments t) → (effect_of other t ≡ e) × Writes image other t live l l' pieces
-reads_plan image other l l' live e t pieces plan wrote long places =
+reads_plan image other l l' live e t pieces reaches grows plan wrote long places =
+    let longer : length image ≤ length other = omega (arith, grows, long) in
     let n : NewPlaces (length other) t = new_parts (length other) t places in
     let small : length other < 2 ^ 63 = omega (arith, plan.small, long) in
     let tiles = brings_read (BringsTile image pieces) (λ (x : Tile). subblock_at other x.entry ≡ Some x) (λ (x : Tile). HasPlace (length other) x.segment) (subblock_of other)
@@ -197,30 +221,30 @@ reads_plan image other l l' live e t pieces plan wrote long places =
         small = plan.small;
         around = plan.around;
         new = record {
-          directory = lists_tiles image other pieces t.directory live.tiles (turned t live).tiles wrote small plan.directory n.directory;
+          directory = lists_tiles image other live.header.directory pieces t.directory live.directory live.tiles (turned t live).tiles reaches.directory reaches.entries wrote longer small plan.directory n.directory;
           tiles = tiles.0;
-          attdir = lists_attachments image other pieces t.attdir live.attachments (turned t live).attachments wrote small plan.attdir n.attdir;
+          attdir = lists_attachments image other live.header.attachments pieces t.attdir live.attdir live.attachments (turned t live).attachments reaches.attdir reaches.a1_entries wrote longer small plan.attdir n.attdir;
           attachments = atts.0;
           metadata = meta.0;
         };
       },
     )
 
-pub plan_writes : (image other : List ℕ) (s s' : State) (live : Live) (e : DocumentEffect) (t : Turn) (pieces : List Piece) → LiesLoosely image live s → IsTidy s'
+pub plan_writes : (image other : List ℕ) (s s' : State) (live : Live) (e : DocumentEffect) (t : Turn) (pieces : List Piece) → LiesLoosely image live s → IsTidy s' → s.layout.length ≤ s'.layout.length
     → SpansAt s'.layout (turned t live) → Plans image s.layout s'.layout live e t pieces
     → Wrote image other pieces → length other ≡ s'.layout.length → (effect_of other t ≡ e) × Writes image other t live s.layout s'.layout pieces
-plan_writes image other s s' live e t pieces lies is' at plan wrote long =
+plan_writes image other s s' live e t pieces lies is' grows at plan wrote long =
     let front : HeaderAt image live.header.segment = header_at_front image live lies.reaches in
     let spans : live_spans s'.layout ≡ map extent (segments (turned t live)) = all_spans s'.layout (turned t live) at in
     let places : AllByRecursion (HasPlace (length other)) (new_segments t) = new_places (length other) s'.layout.length live t front.place front.large
     (λ p. omega (arith, is'.once p, ap (λ z. cover z p) spans)) (λ p h. omega (arith, is'.inside p h, ap (λ z. cover z p) spans)) long in
-    reads_plan image other s.layout s'.layout live e t pieces plan wrote long places
+    reads_plan image other s.layout s'.layout live e t pieces lies.reaches (omega (arith, grows, lies.length)) plan wrote long places
 
 pub planned_anywhere : (image other : List ℕ) (s s' : State) (live : Live) (e : DocumentEffect) (t : Turn) (pieces : List Piece) → LiesLoosely image live s → IsTidy s → Leads s s'
     → SpansAt s'.layout (turned t live) → s'.document ≡ after e s.document → Plans image s.layout s'.layout live e t pieces
     → Wrote image other pieces → length other ≡ s'.layout.length → (effect_of other t ≡ e) × LiesLoosely other (turned t live) s'
 planned_anywhere image other s s' live e t pieces lies is leads at document_is plan wrote long =
-    let read = plan_writes image other s s' live e t pieces lies (stays_tidy s s' is leads) at plan wrote long in
+    let read = plan_writes image other s s' live e t pieces lies (stays_tidy s s' is leads) (led s s' is leads).longer at plan wrote long in
     (read.0, any_commanded image other s s' live t pieces lies is leads at (document_is ∙ ap (λ z. after z s.document) (sym read.0)) read.1)
 
 pub planned : (image other : List ℕ) (s s' : State) (live : Live) (e : DocumentEffect) (t : Turn) (pieces : List Piece) → Lies image live s → IsSound s → Leads s s'
@@ -228,9 +252,6 @@ pub planned : (image other : List ℕ) (s s' : State) (live : Live) (e : Documen
     → Wrote image other pieces → length other ≡ s'.layout.length → (effect_of other t ≡ e) × Lies other (turned t live) s'
 planned image other s s' live e t pieces lies is leads spans document_is plan wrote long =
     let at : LiesAt s'.layout (turned t live) = spans_lie s'.layout (turned t live) (stays_sound s s' is leads).layout spans in
-    let k : Written image other live s s' t pieces = was_written image other s s' live t pieces lies is leads at in
-    let front : HeaderAt image live.header.segment = header_at_front image live lies.reaches in
-    let places : AllByRecursion (HasPlace (length other)) (new_segments t) = new_places (length other) s'.layout.length live t front.place front.large
-    (λ p. omega (arith, k.total p, between_one 0 s'.layout.length p)) (λ p h. omega (arith, k.total p, between_high 0 s'.layout.length p h)) long in
-    let read = reads_plan image other s.layout s'.layout live e t pieces plan wrote long places in
+    let tidy : IsTidy s = sound_tidy s is in
+    let read = plan_writes image other s s' live e t pieces (lies_loosely image live s lies) (stays_tidy s s' tidy leads) (led s s' tidy leads).longer spans plan wrote long in
     (read.0, commanded image other s s' live t pieces lies is leads at (document_is ∙ ap (λ z. after z s.document) (sym read.0)) read.1)

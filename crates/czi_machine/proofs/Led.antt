@@ -15,9 +15,11 @@ use Rattle.czi_machine.specs.State.{Former, State, held, spans_of}
 use Rattle.czi_machine.specs.Writes.{dead}
 use Rattle.czi_machine.proofs.Exact.{sound_tidy}
 use Rattle.czi_machine.proofs.Nexts.{edit_is_next, undo_is_next}
+use Rattle.czi_machine.proofs.Grouped.{placed_placing}
+use Rattle.czi_machine.specs.Grouped.{IsPlaced}
 use Rattle.czi_machine.proofs.Placing.{IsNext, Placing, placing}
-use Rattle.czi_machine.proofs.Steps.{sound_edited, sound_restored}
-use Rattle.czi_machine.proofs.Tidy.{tidy_edited, tidy_restored, held_edited, held_restored, edited_from, restored_from, marked_once}
+use Rattle.czi_machine.proofs.Tidy.{sound_edited, sound_restored, tidy_edited, tidy_restored, held_edited, held_restored, edited_from, restored_from, marked_once}
+use Rattle.czi_machine.proofs.Restated.{ok_is}
 
 pub record Led (s s' : State) : Type 0 where
   pub next : Next
@@ -34,29 +36,31 @@ pub no_fault : {A D E : Type 0} (f : D → E) (r : Result A D) (x : A) → with_
 no_fault f (Ok y) x e = let same : y ≡ x = cc (e) in ap Ok same
 no_fault f (Err y) x e = absurd (cc (e))
 
-pub result_is : {A E : Type 0} (a b : A) → (let r : Result A E = Ok a in r) ≡ Ok b → a ≡ b
-result_is a b e = cc
+-- an edit of which what it brings was placed
+pub placed_led : (s : State) (m : ℕ) (f : DocumentEffect) (pl : Placed) → IsTidy s → Placing s (edit_next s f) pl → Led s (edited s m (after f s.document) (relaid s.layout (edit_next s f) pl))
+placed_led s m f pl is at =
+    let n : Next = edit_next s f in
+    let nx : IsNext s n = edit_is_next s f is in
+    record {
+      next = n;
+      placed = pl;
+      layout = refl;
+      longer = omega (arith, at.uses.longer, at.length);
+      tidy = tidy_edited s m f (after f s.document) pl is at;
+      sound = λ sound. sound_edited s m f (after f s.document) pl sound at;
+      held_from = edited_from s m (after f s.document) (relaid s.layout n pl);
+      held_before = λ p h. held_edited s m (after f s.document) (relaid s.layout n pl) p is h;
+      marks = λ p. marked_once s n pl p is nx at;
+    }
 
 pub effect_led : (s s' : State) (f : DocumentEffect) → IsTidy s → after_effect s f ≡ Ok s' → Led s s'
 effect_led s s' f is e =
     on_ok (with_fault as_refusal (laid s (edit_next s f))) _ s' e λ l l_is done.
     on_ok (placed s.layout (space_of s) (edit_next s f)) _ l (no_fault as_refusal (laid s (edit_next s f)) l l_is) λ pl pl_is laid_is.
     let n : Next = edit_next s f in
-    let its : relaid s.layout n pl ≡ l = result_is (relaid s.layout n pl) l laid_is in
-    let whole : edited s (after f s.document) (relaid s.layout n pl) ≡ s' = ap (edited s (after f s.document)) its ∙ result_is _ s' done in
-    let nx : IsNext s n = edit_is_next s f is in
-    let at : Placing s n pl = placing s n pl is nx pl_is in
-    subst (Led s) whole (record {
-      next = n;
-      placed = pl;
-      layout = refl;
-      longer = omega (arith, at.uses.longer, at.length);
-      tidy = tidy_edited s f (after f s.document) pl is pl_is;
-      sound = λ sound. sound_edited s f (after f s.document) pl sound pl_is;
-      held_from = edited_from s (after f s.document) (relaid s.layout n pl);
-      held_before = λ p h. held_edited s (after f s.document) (relaid s.layout n pl) p is h;
-      marks = λ p. marked_once s n pl p is nx at;
-    })
+    let its : relaid s.layout n pl ≡ l = ok_is (relaid s.layout n pl) l laid_is in
+    let whole : edited s 1 (after f s.document) (relaid s.layout n pl) ≡ s' = ap (edited s 1 (after f s.document)) its ∙ ok_is _ s' done in
+    subst (Led s) whole (placed_led s 1 f pl is (placing s n pl is (edit_is_next s f is) pl_is))
 
 pub undo_led : (s s' : State) → IsTidy s → after_undo s ≡ Ok s' → Led s s'
 undo_led s s' is e = on_formers s.formers refl e
@@ -67,8 +71,8 @@ undo_led s s' is e = on_formers s.formers refl e
         on_ok (with_fault as_refusal (laid s (undo_next s f))) _ s' e' λ l l_is done.
         on_ok (placed s.layout (space_of s) (undo_next s f)) _ l (no_fault as_refusal (laid s (undo_next s f)) l l_is) λ pl pl_is laid_is.
         let n : Next = undo_next s f in
-        let its : relaid s.layout n pl ≡ l = result_is (relaid s.layout n pl) l laid_is in
-        let whole : restored s f formers (relaid s.layout n pl) ≡ s' = ap (restored s f formers) its ∙ result_is _ s' done in
+        let its : relaid s.layout n pl ≡ l = ok_is (relaid s.layout n pl) l laid_is in
+        let whole : restored s f formers (relaid s.layout n pl) ≡ s' = ap (restored s f formers) its ∙ ok_is _ s' done in
         let nx : IsNext s n = undo_is_next s f formers is newest in
         let at : Placing s n pl = placing s n pl is nx pl_is in
         subst (Led s) whole (record {
@@ -87,10 +91,19 @@ pub edits_lead : (s s' : State) (c : Edit) → after_edit s c ≡ Ok s' → Lead
 edits_lead s s' c goes = on_ok (effect s.document c) _ s' goes λ e e_is more. inl (e, more)
 
 pub led : (s s' : State) → IsTidy s → Leads s s' → Led s s'
-led s s' is leads = elim leads [ inl c ↦ effect_led s s' c.0 is c.1 | inr u ↦ undo_led s s' is u ]
+led s s' is leads = elim leads [
+  | inl c ↦ effect_led s s' c.0 is c.1
+  | inr other ↦ elim other [ inl u ↦ undo_led s s' is u | inr g ↦ subst (Led s) g.goes (placed_led s g.edits g.effect g.placed is (placed_placing s g.effect g.needs g.placed is g.places)) ]
+]
 
 pub stays_sound : (s s' : State) → IsSound s → Leads s s' → IsSound s'
 stays_sound s s' is leads = (led s s' (sound_tidy s is) leads).sound is
 
 pub stays_tidy : (s s' : State) → IsTidy s → Leads s s' → IsTidy s'
 stays_tidy s s' is leads = (led s s' is leads).tidy
+
+pub any_order : (s : State) (m : ℕ) (e : DocumentEffect) (needs : List ℕ) (pl : Placed) → IsTidy s → IsPlaced s e needs pl
+    → IsTidy (edited s m (after e s.document) (relaid s.layout (edit_next s e) pl)) × (IsSound s → IsSound (edited s m (after e s.document) (relaid s.layout (edit_next s e) pl)))
+any_order s m e needs pl is p =
+    let ld : Led s (edited s m (after e s.document) (relaid s.layout (edit_next s e) pl)) = placed_led s m e pl is (placed_placing s e needs pl is p) in
+    (ld.tidy, ld.sound)

@@ -11,10 +11,10 @@ use Rattle.czi_format.proofs.Local.{All-append}
 use Rattle.czi_machine.specs.Change.{Act, keep, omit, bring, changed, mapped, Setting, same, to, set, mapped_setting}
 use Rattle.czi_machine.specs.Cover.{between, cover, IsWhole}
 use Rattle.czi_machine.specs.Edit.{DocumentEffect, after}
-use Rattle.czi_machine.specs.Places.{Asked, stays, fresh, directories_asked, next, edit_next, undo_next, stays_or_back, all_stay, directory_asked, subblock_need, attachment_need, metadata_need, directory_need, attdir_need, segment_need, staying, items_asked, directories, live_places}
+use Rattle.czi_machine.specs.Places.{Asked, stays, fresh, directories_asked, next, edit_next, undo_next, stays_or_back, keeps_directory, keeps_attdir, directory_asked, subblock_need, attachment_need, metadata_need, directory_need, attdir_need, segment_need, staying, items_asked, directories, live_places}
 use Rattle.czi_machine.specs.Sound.{IsExact, AreItems, AreDistinct, IsTidy}
 use Rattle.czi_machine.specs.State.{Items, Former, State, held, held_by, items_of, item_places, item_spans, spans_of, not_among}
-use Rattle.czi_machine.proofs.Asking.{IsGood, IsWell, going_back, staying-append, going_back-append, All-staying, spans-append}
+use Rattle.czi_machine.proofs.Asking.{IsGood, IsWell, going_back, staying-append, going_back-append, All-staying, spans-append, option_list}
 use Rattle.czi_machine.proofs.Cover.{cover-append}
 use Rattle.czi_machine.proofs.Placing.{IsNext, few_items, live_parts, held_whole_or_apart}
 use Rattle.czi_machine.proofs.Leaving.{among_themselves}
@@ -59,10 +59,9 @@ keeping_changed need (omit ∷ c) (q ∷ qs) spans good s =
 
 keeping_set : {X : Type 0} (need : X → ℕ) (c : Setting X) (old : Option Place) (spans : List Span) → ((x : X) → (need x % 32 ≡ 0) × (0 < need x)) → Stays (option_to_list old) spans
     → Keeping (option_to_list (set (mapped_setting (λ x. fresh (need x)) c) (option_map stays old))) (option_to_list old) spans
-keeping_set need same None spans good s = record { good = tt; fewer = λ p. omega arith; there = tt }
 keeping_set need same (Some q) spans good s = record { good = (s.good.0, tt); fewer = λ p. omega arith; there = (s.there.0, tt) }
-keeping_set need (to None) old spans good s = record { good = tt; fewer = λ p. omega arith; there = tt }
 keeping_set need (to (Some x)) old spans good s = record { good = (good x, tt); fewer = λ p. omega arith; there = tt }
+keeping_set need c old spans good s = record { good = tt; fewer = λ p. omega arith; there = tt }
 
 keeping_directory : (old : Option Place) (kept : Bool) (need : ℕ) (spans : List Span) → (need % 32 ≡ 0) × (0 < need) → Stays (option_to_list old) spans
     → Keeping (option_to_list (directory_asked old kept need)) (option_to_list old) spans
@@ -109,15 +108,15 @@ pub is_next : (s : State) (d : Document) (ts as' : List Asked) (m : Option Asked
     → AllByRecursion (λ t. list_any (same_span t) (item_spans (items_of s.layout)) ≡ true) (staying (ts ++ (as' ++ option_to_list m)))
     → ((p : ℕ) → cover (going_back (ts ++ (as' ++ option_to_list m))) p ≤ cover (held s) p)
     → AllByRecursion (λ (t : Span). IsWhole t ⊎ ((p : ℕ) → 1 ≤ between t.at (end_of t) p → cover s.layout.deleted p ≡ 0)) (going_back (ts ++ (as' ++ option_to_list m)))
-    → IsNext s (next s.layout d ts as' m)
+    → IsNext s (next s d ts as' m)
 is_next s d ts as' m is good once there backs back_whole =
     let l : Layout = s.layout in
     let live = live_parts (λ (p : Place). 0 < p.span.len) l is.some.1 in
     let st = stays_parts (option_to_list l.directory) (option_to_list l.attdir) (spans_of (directories l)) (stays_in (directories l) live.1) in
-    let kd = keeping_directory l.directory (all_stay l.subblocks ts) (directory_need d.subblocks) (spans_of (directories l)) (segment_need_good _) st.0 in
-    let kx = keeping_directory l.attdir (all_stay l.attachments as') (attdir_need d.attachments) (spans_of (directories l)) (segment_need_good _) st.1 in
-    let D : List Asked = option_to_list (directory_asked l.directory (all_stay l.subblocks ts) (directory_need d.subblocks)) in
-    let X : List Asked = option_to_list (directory_asked l.attdir (all_stay l.attachments as') (attdir_need d.attachments)) in
+    let kd = keeping_directory l.directory (keeps_directory s d ts) (directory_need d.subblocks) (spans_of (directories l)) (segment_need_good _) st.0 in
+    let kx = keeping_directory l.attdir (keeps_attdir s d as') (attdir_need d.attachments) (spans_of (directories l)) (segment_need_good _) st.1 in
+    let D : List Asked = option_to_list (directory_asked l.directory (keeps_directory s d ts) (directory_need d.subblocks)) in
+    let X : List Asked = option_to_list (directory_asked l.attdir (keeps_attdir s d as') (attdir_need d.attachments)) in
     let k = keeping_both D X (option_to_list l.directory) (option_to_list l.attdir) (spans_of (directories l)) kd kx in
     record {
       good = good;
@@ -128,7 +127,7 @@ is_next s d ts as' m is good once there backs back_whole =
       directories_there = k.there;
       back_held = backs;
       back_whole = back_whole;
-      no_directory_back = going_back-append D X ∙ (λ i. no_directory_back l.directory (all_stay l.subblocks ts) (directory_need d.subblocks) i ++ no_directory_back l.attdir (all_stay l.attachments as') (attdir_need d.attachments) i);
+      no_directory_back = going_back-append D X ∙ (λ i. no_directory_back l.directory (keeps_directory s d ts) (directory_need d.subblocks) i ++ no_directory_back l.attdir (keeps_attdir s d as') (attdir_need d.attachments) i);
     }
 
 -- an edit
@@ -175,17 +174,10 @@ on_places present (q ∷ ps) good =
       | inr e ↦ rw e ((good.0, rest.0), rest.1, λ p. omega (arith, rest.2 p), ap (λ l. q.span ∷ l) rest.3)
     ]
 
-option_list : {X Y : Type 0} (f : X → Y) (o : Option X) → option_to_list (option_map f o) ≡ map f (option_to_list o)
-option_list f None = refl
-option_list f (Some x) = refl
-
 -- the items of a former document, asked for
 asked_items : (present : List Span) (i : Items) → map (stays_or_back present) i.subblocks ++ (map (stays_or_back present) i.attachments ++ option_to_list (option_map (stays_or_back present) i.metadata))
     ≡ map (stays_or_back present) (item_places i)
-asked_items present i =
-    sym (map-append (stays_or_back present) i.subblocks (i.attachments ++ option_to_list i.metadata)
-    ∙ ap (λ l. map (stays_or_back present) i.subblocks ++ l) (map-append (stays_or_back present) i.attachments (option_to_list i.metadata)
-    ∙ ap (λ l. map (stays_or_back present) i.attachments ++ l) (sym (option_list (stays_or_back present) i.metadata))))
+asked_items present i = sym (simp (map-append, option_list))
 
 pub held_first : (s : State) (f : Former) (formers : List Former) (p : ℕ) → s.formers ≡ f ∷ formers
     → cover (held s) p ≡ cover (spans_of (not_among (item_spans (items_of s.layout)) (item_places f.items))) p + cover (spans_of (held_by f.items formers)) p
@@ -240,10 +232,9 @@ well_changed need (omit ∷ c) (q ∷ qs) well = well_changed need c qs well.1
 
 well_set : {X : Type 0} (need : X → ℕ) (c : Setting X) (old : Option Place) → AllWell (option_to_list old) → AllByRecursion IsWell (option_to_list (set (mapped_setting (λ x. fresh (need x)) c) (option_map stays old)))
 unfolding AllWell
-well_set need same None well = tt
 well_set need same (Some q) well = (well.0, tt)
-well_set need (to None) old well = tt
 well_set need (to (Some x)) old well = (tt, tt)
+well_set need c old well = tt
 
 well_directory : (old : Option Place) (kept : Bool) (need : ℕ) → AllWell (option_to_list old) → AllByRecursion IsWell (option_to_list (directory_asked old kept need))
 unfolding AllWell
@@ -263,12 +254,13 @@ well_parts : (l : Layout) → IsExact l → AllWell (item_places (items_of l)) �
 unfolding AllWell
 well_parts l is = live_parts (λ (p : Place). IsWhole p.span × (p.walked ≡ true)) l (well_live l is)
 
-pub directories_well : (l : Layout) (d : Document) (ts as' : List Asked) (m : Option Asked) → IsExact l → AllByRecursion IsWell (directories_asked (next l d ts as' m))
+pub directories_well : (s : State) (d : Document) (ts as' : List Asked) (m : Option Asked) → IsExact s.layout → AllByRecursion IsWell (directories_asked (next s d ts as' m))
 unfolding AllWell
-directories_well l d ts as' m is =
+directories_well s d ts as' m is =
+    let l : Layout = s.layout in
     let both = All-append (λ (p : Place). IsWhole p.span × (p.walked ≡ true)) (option_to_list l.directory) (option_to_list l.attdir) (well_parts l is).1 in
-    All-both IsWell (option_to_list (directory_asked l.directory (all_stay l.subblocks ts) (directory_need d.subblocks))) (option_to_list (directory_asked l.attdir (all_stay l.attachments as') (attdir_need d.attachments)))
-    (well_directory l.directory (all_stay l.subblocks ts) (directory_need d.subblocks) both.0) (well_directory l.attdir (all_stay l.attachments as') (attdir_need d.attachments) both.1)
+    All-both IsWell (option_to_list (directory_asked l.directory (keeps_directory s d ts) (directory_need d.subblocks))) (option_to_list (directory_asked l.attdir (keeps_attdir s d as') (attdir_need d.attachments)))
+    (well_directory l.directory (keeps_directory s d ts) (directory_need d.subblocks) both.0) (well_directory l.attdir (keeps_attdir s d as') (attdir_need d.attachments) both.1)
 
 pub edit_well : (s : State) (e : DocumentEffect) → IsExact s.layout → AllByRecursion IsWell (items_asked (edit_next s e))
 unfolding AllWell
@@ -292,10 +284,10 @@ undo_well s f are =
 pub edit_directories_well : (s : State) (e : DocumentEffect) → IsExact s.layout → AllByRecursion IsWell (directories_asked (edit_next s e))
 edit_directories_well s e is =
     let l : Layout = s.layout in
-    directories_well l (after e s.document) (changed (mapped (λ x. fresh (subblock_need x)) e.subblocks) (map stays l.subblocks)) (changed (mapped (λ x. fresh (attachment_need x)) e.attachments) (map stays l.attachments))
+    directories_well s (after e s.document) (changed (mapped (λ x. fresh (subblock_need x)) e.subblocks) (map stays l.subblocks)) (changed (mapped (λ x. fresh (attachment_need x)) e.attachments) (map stays l.attachments))
     (set (mapped_setting (λ x. fresh (metadata_need x)) e.metadata) (option_map stays l.metadata)) is
 
 pub undo_directories_well : (s : State) (f : Former) → IsExact s.layout → AllByRecursion IsWell (directories_asked (undo_next s f))
 undo_directories_well s f is =
     let present : List Span = item_spans (items_of s.layout) in
-    directories_well s.layout f.document (map (stays_or_back present) f.items.subblocks) (map (stays_or_back present) f.items.attachments) (option_map (stays_or_back present) f.items.metadata) is
+    directories_well s f.document (map (stays_or_back present) f.items.subblocks) (map (stays_or_back present) f.items.attachments) (option_map (stays_or_back present) f.items.metadata) is

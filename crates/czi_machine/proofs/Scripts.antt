@@ -1,5 +1,6 @@
 -- Scripts over the empty document, worked out: where the segments, the free runs and the held spans lie.
-use Rattle.std.proofs.Common.{◌≡◌, ℕ, zero, suc, pos, List, [], ◌∷◌, ◌++◌, map, length, replicate, Option, Some, None, refl, codes, true}
+use Rattle.czi_machine.specs.GroupOrder.{after_group}
+use Rattle.std.proofs.Common.{◌≡◌, ℕ, zero, suc, pos, List, [], ◌∷◌, ◌++◌, map, length, replicate, Option, Some, None, refl, codes, true, Result, Ok, Err}
 use Prim.Native.String.{String}
 use Rattle.czi_format.specs.Bytes.{padded}
 use Rattle.czi_format.specs.Entry.{Dim}
@@ -7,10 +8,11 @@ use Rattle.czi_format.specs.Key.{key, attachment_key}
 use Rattle.czi_format.specs.Document.{Document, Subblock, Attachment}
 use Rattle.czi_format.specs.Span.{Span}
 use Rattle.czi_format.specs.Layout.{Layout, Place}
-use Rattle.czi_machine.specs.Edit.{add, replace, remove, attach, reattach, detach, set_meta, no_key, duplicate, nothing}
+use Rattle.czi_machine.specs.Edit.{add, replace, remove, attach, reattach, detach, set_meta, no_key, duplicate, nothing, Refusal, Edit}
 use Rattle.czi_format.specs.Space.{Full, free_runs}
 use Rattle.czi_machine.specs.State.{State, held, spans_of}
-use Rattle.czi_machine.specs.Machine.{Command, edit, undo, repack, Answer, ok, no, ok_repacked, Step, steps, start}
+use Rattle.czi_machine.specs.Places.{in_place}
+use Rattle.czi_machine.specs.Machine.{Command, edit, undo, repack, Answer, ok, no, ok_repacked, Step, steps, start, kept_formers, after_edit}
 
 -- the places of a state, as pairs of a place and a size
 record View : Type 0 where
@@ -42,6 +44,10 @@ view s = record {
   deleted = s.layout.deleted;
   walk_end = s.layout.walk_end;
 }
+
+-- where nothing lies
+abbrev nowhere : View
+nowhere = record { length = 0; directory = []; tiles = []; attdir = []; attachments = []; metadata = []; runs = []; held = []; deleted = []; walk_end = 0 }
 
 no_move : Layout → Option Full
 no_move l = None
@@ -103,38 +109,31 @@ xml : ℕ → Command ℕ
 xml k = edit (set_meta (record { xml = replicate k 0x61; tail = [] }))
 
 -- one tile
-one_added : ends (edit (add (tile 0)) ∷ []) ≡ record {
-  length = 1280;
-  directory = at 1024 256 ∷ [];
+one_added : ends (edit (add (tile 0)) ∷ []) ≡ record nowhere {
+  length = 2304;
+  directory = at 1024 1280 ∷ [];
   tiles = at 704 320 ∷ [];
-  attdir = [];
-  attachments = [];
-  metadata = [];
   runs = at 544 160 ∷ [];
-  held = [];
   deleted = at 544 160 ∷ [];
-  walk_end = 1280;
+  walk_end = 2304;
 }
-unfolding view spans_in last_of no_move tile subblock dims_at dim at key
+unfolding view spans_in last_of no_move in_place kept_formers tile subblock dims_at dim at key
 one_added = refl
 
 added_twice : answers (edit (add (tile 0)) ∷ edit (add (tile 0)) ∷ []) ≡ ok 1 ∷ no (duplicate 0) ∷ []
-unfolding no_move tile subblock dims_at dim key
+unfolding no_move in_place kept_formers tile subblock dims_at dim key
 added_twice = refl
 
-removed_and_added : ends (edit (add (tile 0)) ∷ edit (remove (dims_at 0)) ∷ edit (add (tile 1)) ∷ []) ≡ record {
-  length = 1600;
-  directory = at 1024 256 ∷ [];
-  tiles = at 1280 320 ∷ [];
-  attdir = [];
-  attachments = [];
-  metadata = [];
+removed_and_added : ends (edit (add (tile 0)) ∷ edit (remove (dims_at 0)) ∷ edit (add (tile 1)) ∷ []) ≡ record nowhere {
+  length = 2624;
+  directory = at 1024 1280 ∷ [];
+  tiles = at 2304 320 ∷ [];
   runs = at 544 160 ∷ [];
   held = at 704 320 ∷ [];
   deleted = at 544 480 ∷ [];
-  walk_end = 1600;
+  walk_end = 2624;
 }
-unfolding view spans_in last_of no_move tile subblock dims_at dim at key
+unfolding view spans_in last_of no_move in_place kept_formers tile subblock dims_at dim at key
 removed_and_added = refl
 
 -- 31 more commands, and the first former that held the tile is dropped: then its place is used again
@@ -142,156 +141,123 @@ metas : ℕ → List (Command ℕ)
 metas zero = []
 metas (suc n) = xml 0 ∷ metas n
 
-held_until_dropped : ends (edit (add (tile 0)) ∷ edit (remove (dims_at 0)) ∷ edit (add (tile 1)) ∷ (metas 31 ++ edit (add (tile 2)) ∷ [])) ≡ record {
-  length = 10880;
-  directory = at 10528 352 ∷ [];
-  tiles = at 1280 320 ∷ at 544 320 ∷ [];
-  attdir = [];
-  attachments = [];
-  metadata = at 10240 288 ∷ [];
-  runs = at 864 416 ∷ [];
+held_until_dropped : ends (edit (add (tile 0)) ∷ edit (remove (dims_at 0)) ∷ edit (add (tile 1)) ∷ (metas 31 ++ edit (add (tile 2)) ∷ [])) ≡ record nowhere {
+  length = 11552;
+  directory = at 1024 1280 ∷ [];
+  tiles = at 2304 320 ∷ at 544 320 ∷ [];
+  metadata = at 11264 288 ∷ [];
+  runs = at 864 160 ∷ [];
   held = (ends (edit (add (tile 0)) ∷ edit (remove (dims_at 0)) ∷ edit (add (tile 1)) ∷ (metas 31 ++ edit (add (tile 2)) ∷ []))).held;
   deleted = (ends (edit (add (tile 0)) ∷ edit (remove (dims_at 0)) ∷ edit (add (tile 1)) ∷ (metas 31 ++ edit (add (tile 2)) ∷ []))).deleted;
-  walk_end = 10880;
+  walk_end = 11552;
 }
-unfolding view spans_in last_of no_move tile subblock dims_at dim at key metas xml
+unfolding view spans_in last_of no_move in_place kept_formers tile subblock dims_at dim at key metas xml
 held_until_dropped = refl
 
 thirty_held : length (ends (edit (add (tile 0)) ∷ edit (remove (dims_at 0)) ∷ edit (add (tile 1)) ∷ (metas 31 ++ edit (add (tile 2)) ∷ []))).held ≡ 30
-unfolding view spans_in last_of no_move tile subblock dims_at dim at key metas xml
+unfolding view spans_in last_of no_move in_place kept_formers tile subblock dims_at dim at key metas xml
 thirty_held = refl
 
-add_undone : ends (edit (add (tile 0)) ∷ undo ∷ []) ≡ record {
-  length = 1280;
-  directory = at 544 160 ∷ [];
-  tiles = [];
-  attdir = [];
-  attachments = [];
-  metadata = [];
-  runs = at 704 576 ∷ [];
-  held = [];
-  deleted = at 704 576 ∷ [];
-  walk_end = 1280;
+add_undone : ends (edit (add (tile 0)) ∷ undo ∷ []) ≡ record nowhere {
+  length = 2304;
+  directory = at 1024 1280 ∷ [];
+  runs = at 544 480 ∷ [];
+  deleted = at 544 480 ∷ [];
+  walk_end = 2304;
 }
-unfolding view spans_in last_of no_move tile subblock dims_at dim at key
+unfolding view spans_in last_of no_move in_place kept_formers tile subblock dims_at dim at key
 add_undone = refl
 
 undone_twice : answers (edit (add (tile 0)) ∷ undo ∷ undo ∷ []) ≡ ok 1 ∷ ok 2 ∷ no nothing ∷ []
-unfolding no_move tile subblock dims_at dim key
+unfolding no_move in_place kept_formers tile subblock dims_at dim key
 undone_twice = refl
 
-replaced : ends (edit (add (tile 0)) ∷ edit (replace (subblock 1 0 100 16)) ∷ []) ≡ record {
-  length = 1952;
-  directory = at 1696 256 ∷ [];
-  tiles = at 1280 416 ∷ [];
-  attdir = [];
-  attachments = [];
-  metadata = [];
-  runs = at 544 160 ∷ at 1024 256 ∷ [];
+replaced : ends (edit (add (tile 0)) ∷ edit (replace (subblock 1 0 100 16)) ∷ []) ≡ record nowhere {
+  length = 2720;
+  directory = at 1024 1280 ∷ [];
+  tiles = at 2304 416 ∷ [];
+  runs = at 544 160 ∷ [];
   held = at 704 320 ∷ [];
-  deleted = at 544 736 ∷ [];
-  walk_end = 1952;
+  deleted = at 544 480 ∷ [];
+  walk_end = 2720;
 }
-unfolding view spans_in last_of no_move tile subblock dims_at dim at key
+unfolding view spans_in last_of no_move in_place kept_formers tile subblock dims_at dim at key
 replaced = refl
 
-replace_undone : ends (edit (add (tile 0)) ∷ edit (replace (subblock 1 0 100 16)) ∷ undo ∷ []) ≡ record {
-  length = 1952;
-  directory = at 1024 256 ∷ [];
+replace_undone : ends (edit (add (tile 0)) ∷ edit (replace (subblock 1 0 100 16)) ∷ undo ∷ []) ≡ record nowhere {
+  length = 2720;
+  directory = at 1024 1280 ∷ [];
   tiles = at 704 320 ∷ [];
-  attdir = [];
-  attachments = [];
-  metadata = [];
-  runs = at 544 160 ∷ at 1280 672 ∷ [];
-  held = [];
-  deleted = at 544 160 ∷ at 1280 672 ∷ [];
-  walk_end = 1952;
+  runs = at 544 160 ∷ at 2304 416 ∷ [];
+  deleted = at 544 160 ∷ at 2304 416 ∷ [];
+  walk_end = 2720;
 }
-unfolding view spans_in last_of no_move tile subblock dims_at dim at key
+unfolding view spans_in last_of no_move in_place kept_formers tile subblock dims_at dim at key
 replace_undone = refl
 
-three_added : ends (edit (add (tile 0)) ∷ edit (add (tile 1)) ∷ edit (add (tile 2)) ∷ []) ≡ record {
-  length = 2720;
-  directory = at 2272 448 ∷ [];
-  tiles = at 704 320 ∷ at 1280 320 ∷ at 1952 320 ∷ [];
-  attdir = [];
-  attachments = [];
-  metadata = [];
-  runs = at 544 160 ∷ at 1024 256 ∷ at 1600 352 ∷ [];
-  held = [];
-  deleted = at 544 160 ∷ at 1024 256 ∷ at 1600 352 ∷ [];
-  walk_end = 2720;
+three_added : ends (edit (add (tile 0)) ∷ edit (add (tile 1)) ∷ edit (add (tile 2)) ∷ []) ≡ record nowhere {
+  length = 2944;
+  directory = at 1024 1280 ∷ [];
+  tiles = at 704 320 ∷ at 2304 320 ∷ at 2624 320 ∷ [];
+  runs = at 544 160 ∷ [];
+  deleted = at 544 160 ∷ [];
+  walk_end = 2944;
 }
-unfolding view spans_in last_of no_move tile subblock dims_at dim at key
+unfolding view spans_in last_of no_move in_place kept_formers tile subblock dims_at dim at key
 three_added = refl
 
-first_removed : ends (edit (add (tile 0)) ∷ edit (add (tile 1)) ∷ edit (add (tile 2)) ∷ edit (remove (dims_at 0)) ∷ []) ≡ record {
-  length = 2720;
-  directory = at 1600 352 ∷ [];
-  tiles = at 1280 320 ∷ at 1952 320 ∷ [];
-  attdir = [];
-  attachments = [];
-  metadata = [];
-  runs = at 544 160 ∷ at 1024 256 ∷ at 2272 448 ∷ [];
+first_removed : ends (edit (add (tile 0)) ∷ edit (add (tile 1)) ∷ edit (add (tile 2)) ∷ edit (remove (dims_at 0)) ∷ []) ≡ record nowhere {
+  length = 2944;
+  directory = at 1024 1280 ∷ [];
+  tiles = at 2304 320 ∷ at 2624 320 ∷ [];
+  runs = at 544 160 ∷ [];
   held = at 704 320 ∷ [];
-  deleted = at 544 736 ∷ at 2272 448 ∷ [];
-  walk_end = 2720;
+  deleted = at 544 480 ∷ [];
+  walk_end = 2944;
 }
-unfolding view spans_in last_of no_move tile subblock dims_at dim at key
+unfolding view spans_in last_of no_move in_place kept_formers tile subblock dims_at dim at key
 first_removed = refl
 
-first_back : ends (edit (add (tile 0)) ∷ edit (add (tile 1)) ∷ edit (add (tile 2)) ∷ edit (remove (dims_at 0)) ∷ undo ∷ []) ≡ record {
-  length = 2720;
-  directory = at 2272 448 ∷ [];
-  tiles = at 704 320 ∷ at 1280 320 ∷ at 1952 320 ∷ [];
-  attdir = [];
-  attachments = [];
-  metadata = [];
-  runs = at 544 160 ∷ at 1024 256 ∷ at 1600 352 ∷ [];
-  held = [];
-  deleted = at 544 160 ∷ at 1024 256 ∷ at 1600 352 ∷ [];
-  walk_end = 2720;
+first_back : ends (edit (add (tile 0)) ∷ edit (add (tile 1)) ∷ edit (add (tile 2)) ∷ edit (remove (dims_at 0)) ∷ undo ∷ []) ≡ record nowhere {
+  length = 2944;
+  directory = at 1024 1280 ∷ [];
+  tiles = at 704 320 ∷ at 2304 320 ∷ at 2624 320 ∷ [];
+  runs = at 544 160 ∷ [];
+  deleted = at 544 160 ∷ [];
+  walk_end = 2944;
 }
-unfolding view spans_in last_of no_move tile subblock dims_at dim at key
+unfolding view spans_in last_of no_move in_place kept_formers tile subblock dims_at dim at key
 first_back = refl
 
 -- a removal on one tile's image
-one_removed : ends (edit (add (tile 0)) ∷ edit (remove (dims_at 0)) ∷ []) ≡ record {
-  length = 1280;
-  directory = at 544 160 ∷ [];
-  tiles = [];
-  attdir = [];
-  attachments = [];
-  metadata = [];
-  runs = at 1024 256 ∷ [];
+one_removed : ends (edit (add (tile 0)) ∷ edit (remove (dims_at 0)) ∷ []) ≡ record nowhere {
+  length = 2304;
+  directory = at 1024 1280 ∷ [];
+  runs = at 544 160 ∷ [];
   held = at 704 320 ∷ [];
-  deleted = at 704 576 ∷ [];
-  walk_end = 1280;
+  deleted = at 544 480 ∷ [];
+  walk_end = 2304;
 }
-unfolding view spans_in last_of no_move tile subblock dims_at dim at key
+unfolding view spans_in last_of no_move in_place kept_formers tile subblock dims_at dim at key
 one_removed = refl
 
 attachment : ℕ → Attachment
 attachment n = record { info = record { guid = replicate 16 0; kind = padded 8 "TXT"; name = padded 80 "EventList" }; bytes = replicate n 0x61 }
 
-three_of_attachments : ends (edit (attach (attachment 5)) ∷ edit (reattach (attachment 2)) ∷ edit (detach (codes "EventList")) ∷ []) ≡ record {
-  length = 2176;
+three_of_attachments : ends (edit (attach (attachment 5)) ∷ edit (reattach (attachment 2)) ∷ edit (detach (codes "EventList")) ∷ []) ≡ record nowhere {
+  length = 2784;
   directory = at 544 160 ∷ [];
-  tiles = [];
-  attdir = at 1024 288 ∷ [];
-  attachments = [];
-  metadata = [];
-  runs = at 1312 128 ∷ at 1760 416 ∷ [];
-  held = at 1440 320 ∷ at 704 320 ∷ [];
-  deleted = at 704 320 ∷ at 1312 864 ∷ [];
-  walk_end = 2176;
+  attdir = at 1024 1440 ∷ [];
+  held = at 2464 320 ∷ at 704 320 ∷ [];
+  deleted = at 704 320 ∷ at 2464 320 ∷ [];
+  walk_end = 2784;
 }
-unfolding view spans_in last_of no_move attachment at attachment_key
+unfolding view spans_in last_of no_move in_place kept_formers attachment at attachment_key
 three_of_attachments = refl
 
 attachment_answers : answers (edit (attach (attachment 5)) ∷ edit (attach (attachment 5)) ∷ edit (reattach (attachment 2)) ∷ edit (detach (codes "Nope")) ∷ edit (detach (codes "EventList")) ∷ [])
     ≡ ok 1 ∷ no (duplicate 0) ∷ ok 2 ∷ no no_key ∷ ok 3 ∷ []
-unfolding no_move attachment attachment_key
+unfolding no_move in_place kept_formers attachment attachment_key
 attachment_answers = refl
 
 -- 33 settings of the metadata, and 33 undos: the oldest can't be undone
@@ -304,11 +270,11 @@ undos zero = []
 undos (suc n) = undo ∷ undos n
 
 oldest_stays : (ends (xmls 33 1 ++ undos 33)).metadata ≡ at 704 320 ∷ []
-unfolding view spans_in last_of no_move at xmls undos xml
+unfolding view spans_in last_of no_move in_place kept_formers at xmls undos xml
 oldest_stays = refl
 
 thirty_three_long : (ends (xmls 33 1 ++ undos 33)).length ≡ 11296
-unfolding view spans_in last_of no_move at xmls undos xml
+unfolding view spans_in last_of no_move in_place kept_formers at xmls undos xml
 thirty_three_long = refl
 
 -- a repack
@@ -327,5 +293,103 @@ gap_layout = record {
 }
 
 gap_repacked : answers_from (start empty_document gap_layout) (repack ∷ []) ≡ ok_repacked (record { number = 1; moved = 2; dropped = 0; before = 4960; after = 4896 }) ∷ []
-unfolding no_move
+unfolding no_move in_place kept_formers
 gap_repacked = refl
+
+-- a group of two tiles, and its undo
+state_of : Result State Refusal → State
+state_of (Ok s) = s
+state_of (Err r) = origin
+
+grouped : view (state_of (after_group origin (add (tile 0) ∷ add (tile 1) ∷ []))) ≡ record nowhere {
+  length = 2720;
+  directory = at 1344 1376 ∷ [];
+  tiles = at 704 320 ∷ at 1024 320 ∷ [];
+  runs = at 544 160 ∷ [];
+  deleted = at 544 160 ∷ [];
+  walk_end = 2720;
+}
+unfolding view spans_in in_place kept_formers tile subblock dims_at dim at key state_of
+grouped = refl
+
+group_undone : view (last_of (state_of (after_group origin (add (tile 0) ∷ add (tile 1) ∷ []))) (steps no_move (state_of (after_group origin (add (tile 0) ∷ add (tile 1) ∷ []))) (let c : List (Command ℕ) = undo ∷ [] in c))) ≡ record nowhere {
+  length = 2720;
+  directory = at 1344 1376 ∷ [];
+  runs = at 544 800 ∷ [];
+  deleted = at 544 800 ∷ [];
+  walk_end = 2720;
+}
+unfolding view spans_in last_of no_move in_place kept_formers tile subblock dims_at dim at key state_of
+group_undone = refl
+
+-- the needs of a group go in the order of its edits, whatever its lists are: an attachment, and then a tile
+attached_and_added : view (state_of (after_group origin (attach (attachment 5) ∷ add (tile 0) ∷ []))) ≡ record nowhere {
+  length = 4064;
+  directory = at 1344 1280 ∷ [];
+  tiles = at 1024 320 ∷ [];
+  attdir = at 2624 1440 ∷ [];
+  attachments = at 704 320 ∷ [];
+  runs = at 544 160 ∷ [];
+  deleted = at 544 160 ∷ [];
+  walk_end = 4064;
+}
+unfolding view spans_in in_place kept_formers tile subblock dims_at dim at key attachment attachment_key state_of
+attached_and_added = refl
+
+-- what a group brings and takes away again needs nothing
+added_and_removed : view (state_of (after_group origin (add (tile 0) ∷ remove (dims_at 0) ∷ []))) ≡ view origin
+unfolding view spans_in in_place kept_formers tile subblock dims_at dim at key state_of
+added_and_removed = refl
+
+-- groups of 64 edits take back 64 each: of three commands two can be undone
+sixty_four : List Edit
+sixty_four = replicate 64 (set_meta (record { xml = []; tail = [] }))
+
+counted : length (state_of (after_edit (state_of (after_group (state_of (after_group origin sixty_four)) sixty_four)) (set_meta (record { xml = []; tail = [] })))).formers ≡ 2
+unfolding in_place kept_formers state_of sixty_four
+counted = refl
+
+-- an image that the walk doesn't reach the end of: 100 bytes that are no segment follow the empty document
+abbrev unsteady : State
+unsteady = start empty_document (record empty_layout { length = 804 })
+
+behind_the_tail : view (last_of unsteady (steps no_move unsteady (let c : List (Command ℕ) = edit (add (tile 0)) ∷ [] in c))) ≡ record nowhere {
+  length = 2432;
+  directory = at 1152 1280 ∷ [];
+  tiles = at 832 320 ∷ [];
+  runs = at 544 160 ∷ [];
+  deleted = at 544 160 ∷ [];
+  walk_end = 704;
+}
+unfolding view spans_in last_of no_move in_place kept_formers tile subblock dims_at dim at key
+behind_the_tail = refl
+
+-- a file of realistic size: the attachment directory has room for one entry less
+abbrev large_layout : Layout
+large_layout = record {
+  length = 100743296;
+  header = record { span = record { at = 0; len = 544 }; walked = true };
+  directory = Some (record { span = record { at = 100719872; len = 2720 }; walked = true });
+  attdir = Some (record { span = record { at = 100742880; len = 416 }; walked = true });
+  metadata = Some (record { span = record { at = 100679584; len = 40288 }; walked = true });
+  subblocks = [];
+  attachments = record { span = record { at = 100722592; len = 20288 }; walked = true } ∷ [];
+  walk_end = 100743296;
+  deleted = [];
+  unknown = [];
+}
+
+abbrev large : State
+large = start (record empty_document { attachments = attachment 5 ∷ []; metadata = Some (record { xml = []; tail = [] }) }) large_layout
+
+large_edited : view (last_of large (steps no_move large (let c : List (Command ℕ) = xml 50000 ∷ edit (detach (codes "EventList")) ∷ [] in c))) ≡ record nowhere {
+  length = 100793600;
+  directory = at 100719872 2720 ∷ [];
+  attdir = at 100742880 416 ∷ [];
+  metadata = at 100743296 50304 ∷ [];
+  held = at 100722592 20288 ∷ at 100679584 40288 ∷ [];
+  deleted = at 100679584 40288 ∷ at 100722592 20288 ∷ [];
+  walk_end = 100793600;
+}
+unfolding view spans_in last_of no_move in_place kept_formers attachment at attachment_key xml
+large_edited = refl

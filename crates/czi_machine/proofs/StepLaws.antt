@@ -1,67 +1,45 @@
 -- Edits and undos, from their plans, with what brings the former documents back.
-use Rattle.std.proofs.Common.{◌≡◌, ℕ, ◌≤◌, ◌<◌, List, [], ◌∷◌, ◌++◌, map, take, length, Option, Some, None, Result, Ok, option_map, option_to_list, refl, ap, sym, ◌∙◌, arith, subst, inl, inr}
+use Rattle.std.proofs.Common.{◌≡◌, ℕ, ◌≤◌, ◌<◌, List, [], ◌∷◌, ◌++◌, map, take, length, Option, Some, None, Ok, option_map, option_to_list, refl, ap, sym, ◌∙◌, arith, subst, inl, inr}
 use Rattle.std.specs.List.{AllByRecursion, list_any}
 use Rattle.std.proofs.lemmas.Bool.{cases_Bool}
 use Rattle.czi_format.specs.FirstFault.{with_fault}
 use Rattle.czi_format.specs.Layout.{Place, Layout}
 use Rattle.czi_format.specs.Live.{Live, Directory, Tile, AttItem, MetaItem, subblock_of, attachment_of, metadata_of}
-use Rattle.czi_format.specs.Segment.{Segment, extent}
-use Rattle.czi_format.specs.Space.{Space, Full, same_span}
+use Rattle.czi_format.specs.Segment.{extent}
+use Rattle.czi_format.specs.Space.{Space, same_span}
 use Rattle.czi_format.specs.Span.{Span, end_of}
 use Rattle.czi_format.proofs.Local.{All-append}
 use Rattle.czi_format.proofs.Rules.{on_ok}
-use Rattle.czi_machine.specs.Change.{Act, keep, omit, bring, brought, mapped, Setting, same, to, set, set_new, mapped_setting}
+use Rattle.czi_machine.specs.Change.{Act, keep, omit, bring, brought, mapped, Setting, to, set, set_new, mapped_setting}
 use Rattle.czi_machine.specs.Edit.{DocumentEffect, after}
 use Rattle.czi_machine.specs.Fits.{IsAt, SetsAt, TurnsAt, FitsEffect}
 use Rattle.czi_machine.specs.Formers.{Lain, tile_place, attachment_place, metadata_place, Return, return_effect, return_items, brought_back, LiesHeld, BringBack, present, undoing}
 use Rattle.czi_machine.specs.Kept.{LiesWith, undo_turn, FitsUndo, PlansUndo, UndoIs}
-use Rattle.czi_machine.specs.Laws.{Lies, LiesLoosely, Leads}
-use Rattle.czi_machine.specs.Machine.{after_effect, after_undo, after_undo_of, as_refusal, restored}
+use Rattle.czi_machine.specs.Laws.{Lies, Leads}
+use Rattle.czi_machine.specs.Machine.{after_effect, after_undo, after_undo_of, as_refusal, restored, kept_formers}
 use Rattle.czi_machine.specs.Places.{Next, Placed, Fitted, fit_one, fit_each, fit_option, placed, laid, relaid, space_of, undo_next, stays_or_back}
 use Rattle.czi_machine.specs.Planned.{Brings, Sets, BringsTile, BringsAttachment, BringsMetadata, Plans}
 use Rattle.czi_machine.specs.Puts.{PutsHeader}
 use Rattle.czi_machine.specs.Sound.{IsSound, IsTidy}
 use Rattle.czi_machine.specs.State.{Items, Former, State, held, held_by, items_of, item_places, item_spans, spans_of, not_among}
-use Rattle.czi_machine.specs.Tiled.{tiled_layout, here}
 use Rattle.czi_machine.specs.Turn.{Turn, turned, SpansAt}
 use Rattle.czi_machine.specs.Written.{Piece, Wrote}
+use Rattle.czi_machine.specs.GroupKept.{LiesAsPlaced}
+use Rattle.czi_machine.specs.Grouped.{put_in, Groups}
 use Rattle.czi_machine.proofs.AnyCommand.{ends_before, any_commanded}
-use Rattle.czi_machine.proofs.Asking.{ok_is}
 use Rattle.czi_machine.proofs.BroughtBack.{HasBack, has_back}
-use Rattle.czi_machine.proofs.EditUndone.{edits_bring_back}
+use Rattle.czi_machine.proofs.FormersKept.{edits_bring_back, groups_bring_back, edit_makes, undos_bring_back}
 use Rattle.czi_machine.proofs.Exact.{sound_tidy}
 use Rattle.czi_machine.proofs.Follow.{spans_follow, fits_turn}
-use Rattle.czi_machine.proofs.FormersKept.{edit_makes, undos_bring_back}
 use Rattle.czi_machine.proofs.FromPlan.{plan_writes, planned}
-use Rattle.czi_machine.proofs.Led.{stays_sound, stays_tidy, no_fault, result_is}
-use Rattle.czi_machine.proofs.Lying.{Tiling, tiling}
+use Rattle.czi_machine.proofs.Led.{stays_sound, stays_tidy, no_fault, led}
+use Rattle.czi_machine.proofs.Lying.{lies_loosely}
 use Rattle.czi_machine.proofs.Placing.{held_covered}
 use Rattle.czi_machine.proofs.Steady.{on_all}
 use Rattle.czi_machine.proofs.Tidy.{undo_places}
 use Rattle.czi_machine.proofs.Tiled.{All-map, map-All}
-
--- a state of a steady image has the live extents
-pub lies_loosely : (image : List ℕ) (live : Live) (s : State) → Lies image live s → LiesLoosely image live s
-lies_loosely image live s lies =
-    let tl : Tiling image live s = tiling image live s lies in
-    let l : Layout = tiled_layout (length image) live tl.deleted tl.unknown in
-    let at : SpansAt l live = record {
-      header = refl;
-      directory = one (λ (d : Directory). d.segment) live.directory;
-      subblocks = each (λ (x : Tile). x.segment) live.tiles;
-      attdir = one (λ (d : Directory). d.segment) live.attdir;
-      attachments = each (λ (x : AttItem). x.segment) live.attachments;
-      metadata = one (λ (m : MetaItem). m.segment) live.metadata;
-    } in
-    record { reaches = lies.reaches; document = lies.document; extents = subst (λ z. SpansAt z live) (sym tl.layout) at; length = ap (λ (z : Layout). z.length) tl.layout }
-  where
-    one : {X : Type 0} (f : X → Segment) (o : Option X) → option_map (λ (p : Place). p.span) (option_map (λ x. here (f x)) o) ≡ option_map (λ x. extent (f x)) o
-    one f None = refl
-    one f (Some x) = refl
-
-    each : {X : Type 0} (f : X → Segment) (xs : List X) → map (λ (p : Place). p.span) (map (λ x. here (f x)) xs) ≡ map (λ x. extent (f x)) xs
-    each f [] = refl
-    each f (x ∷ xs) = ap (λ z. extent (f x) ∷ z) (each f xs)
+use Rattle.czi_machine.proofs.Restated.{one_ok, ok_is}
+use Rattle.czi_machine.proofs.Ordering.{put_at, set_at}
 
 -- what stays or goes back takes no space
 one_space : (l : Layout) (present : List Span) (space : Space) (q : Place) (r : Fitted Place) → fit_one l space (stays_or_back present q) ≡ Ok r → r.space ≡ space
@@ -83,9 +61,6 @@ option_space l present space (Some q) r e =
     on_ok (fit_one l space (stays_or_back present q)) _ r e λ first one done.
     ap (λ (z : Fitted (Option Place)). z.space) (sym (ok_is _ r done)) ∙ one_space l present space q first one
 
-fit_is : {X : Type 0} (a b : Fitted X) (r : Result (Fitted X) Full) → r ≡ Ok a → r ≡ Ok b → a ≡ b
-fit_is a b r p q = cc
-
 -- what is brought back, and where it lies
 brings_mapped : {W X Y : Type 0} (P : X → Y → Type 0) (f : W → X) (g : W → Y) (c : List (Act W)) → AllByRecursion (λ w. P (f w) (g w)) (brought c) → Brings P (mapped f c) (mapped g c)
 brings_mapped P f g [] all = tt
@@ -94,9 +69,8 @@ brings_mapped P f g (omit ∷ c) all = brings_mapped P f g c all
 brings_mapped P f g (bring w ∷ c) all = (all.0, brings_mapped P f g c all.1)
 
 sets_mapped : {W X Y : Type 0} (P : X → Y → Type 0) (f : W → X) (g : W → Y) (c : Setting W) → AllByRecursion (λ w. P (f w) (g w)) (option_to_list (set_new c)) → Sets P (mapped_setting f c) (mapped_setting g c)
-sets_mapped P f g same all = tt
-sets_mapped P f g (to None) all = tt
 sets_mapped P f g (to (Some w)) all = all.0
+sets_mapped P f g c all = tt
 
 all_refl : {W : Type 0} (f : W → Span) (ws : List W) → AllByRecursion (λ w. f w ≡ f w) ws
 all_refl f [] = tt
@@ -112,7 +86,7 @@ undo_makes : (s s' : State) (f : Former) (formers : List Former) → s.formers �
 undo_makes s s' f formers newest e =
     on_ok (with_fault as_refusal (laid s (undo_next s f))) _ s' (sym (ap (after_undo_of s) newest) ∙ e) λ l l_is done.
     on_ok (placed s.layout (space_of s) (undo_next s f)) _ l (no_fault as_refusal (laid s (undo_next s f)) l l_is) λ pl pl_is laid_is.
-    record { at = pl; there = pl_is; whole = ap (restored s f formers) (result_is (relaid s.layout (undo_next s f) pl) l laid_is) ∙ result_is _ s' done }
+    record { at = pl; there = pl_is; whole = ap (restored s f formers) (ok_is (relaid s.layout (undo_next s f) pl) l laid_is) ∙ ok_is _ s' done }
 
 undo_turns : (s s' : State) (f : Former) (formers : List Former) (r : Return) (d x : Setting Directory) → s.formers ≡ f ∷ formers → f.items ≡ return_items r (items_of s.layout) → after_undo s ≡ Ok s' → FitsUndo s f d x
     → TurnsAt s.layout s'.layout (undo_turn r d x)
@@ -129,9 +103,9 @@ undo_turns s s' f formers r d x newest items_are goes fits =
     on_ok (fit_option l m.space n.directory) _ made.at e3 λ dd d_is e4.
     on_ok (fit_option l dd.space n.attdir) _ made.at e4 λ xx x_is e5.
     let spaces : m.space ≡ space_of s = option_space l now b.space f.items.metadata m m_is ∙ (each_space l now a.space f.items.attachments b b_is ∙ each_space l now (space_of s) f.items.subblocks a a_is) in
-    let td : dd ≡ fits.directory = fit_is dd fits.directory (fit_option l (space_of s) n.directory) (subst (λ z. fit_option l z n.directory ≡ Ok dd) spaces d_is) fits.directory_fit in
-    let tx : xx ≡ fits.attdir = fit_is xx fits.attdir (fit_option l fits.directory.space n.attdir) (subst (λ (z : Fitted (Option Place)). fit_option l z.space n.attdir ≡ Ok xx) td x_is) fits.attdir_fit in
-    let at_is = placed_is _ made.at e5 in
+    let td : dd ≡ fits.directory = one_ok dd fits.directory (fit_option l (space_of s) n.directory) (subst (λ z. fit_option l z n.directory ≡ Ok dd) spaces d_is) fits.directory_fit in
+    let tx : xx ≡ fits.attdir = one_ok xx fits.attdir (fit_option l fits.directory.space n.attdir) (subst (λ (z : Fitted (Option Place)). fit_option l z.space n.attdir ≡ Ok xx) td x_is) fits.attdir_fit in
+    let at_is = ok_is _ made.at e5 in
     record {
       header = ap (λ (z : Layout). z.header.span) its;
       directory = subst (SetsAt (λ (d : Directory). d.segment) d l.directory) (sym (ap (λ (z : Layout). z.directory) its ∙ (ap (λ (z : Placed). z.directory) (sym at_is) ∙ ap (λ (z : Fitted (Option Place)). z.places) td))) fits.directory_at;
@@ -145,13 +119,9 @@ undo_turns s s' f formers r d x newest items_are goes fits =
       metadata = of_metadata l.metadata s'.layout.metadata r.metadata (ap (λ (z : Layout). z.metadata) its ∙ ap (λ (z : Items). z.metadata) placed_items);
     }
   where
-    placed_is : (a b : Placed) → (let r : Result Placed Full = Ok a in r) ≡ Ok b → a ≡ b
-    placed_is a b e = cc
-
     of_metadata : (old new : Option Place) (c : Setting (Lain MetaItem)) → new ≡ set (mapped_setting metadata_place c) old → SetsAt (λ (m : MetaItem). m.segment) (mapped_setting (λ (y : Lain MetaItem). y.item) c) old new
-    of_metadata old new same e = e
-    of_metadata old new (to None) e = e
     of_metadata old new (to (Some y)) e = ap (option_map (λ (p : Place). p.span)) e
+    of_metadata old new c e = e
 
 -- all of what comes back lies in the image
 back_inside : (image : List ℕ) (s : State) (f : Former) (formers : List Former) (r : Return) → IsTidy s → s.formers ≡ f ∷ formers → f.items ≡ return_items r (items_of s.layout) → LiesHeld image (items_of s.layout) r
@@ -212,12 +182,12 @@ edited_document s s' e goes = ap (λ (z : State). z.document) (sym (edit_makes s
 
 pub edits_keep : (image other : List ℕ) (s s' : State) (live : Live) (e : DocumentEffect) (t : Turn) (pieces : List Piece) (returns : List Return) → LiesWith image live s returns
     → after_effect s e ≡ Ok s' → FitsEffect s e t → Plans image s.layout s'.layout live e t pieces → Wrote image other pieces → length other ≡ s'.layout.length
-    → LiesWith other (turned t live) s' (take 32 (undoing t live s.layout ∷ returns))
+    → LiesWith other (turned t live) s' (undoing 1 t live s.layout ∷ take (kept_formers 1 s) returns)
 edits_keep image other s s' live e t pieces returns w goes fits plan wrote long =
     let leads : Leads s s' = inl (e, goes) in
     let is' : IsTidy s' = stays_tidy s s' w.tidy leads in
     let at : SpansAt s'.layout (turned t live) = spans_follow s.layout s'.layout live t w.lies.extents (fits_turn s s' e t fits goes) in
-    let read = plan_writes image other s s' live e t pieces w.lies is' at plan wrote long in
+    let read = plan_writes image other s s' live e t pieces w.lies is' (led s s' w.tidy leads).longer at plan wrote long in
     record {
       lies = any_commanded image other s s' live t pieces w.lies w.tidy leads at (edited_document s s' e goes ∙ ap (λ z. after z s.document) (sym read.0)) read.1;
       tidy = is';
@@ -238,10 +208,10 @@ pub undos_keep : (image other : List ℕ) (s s' : State) (live : Live) (f : Form
     → Wrote image other pieces → length other ≡ s'.layout.length → LiesWith other (turned (undo_turn r d x) live) s' returns
 undos_keep image other s s' live f formers r returns d x pieces w newest goes fits plan wrote long =
     let t : Turn = undo_turn r d x in
-    let leads : Leads s s' = inr goes in
+    let leads : Leads s s' = inr (inl goes) in
     let is' : IsTidy s' = stays_tidy s s' w.tidy leads in
     let u : UndoIs image s s' live r t pieces = undo_is image s s' live f formers r returns d x pieces w newest goes fits plan in
-    let read = plan_writes image other s s' live (return_effect image r) t pieces w.lies is' u.spans u.plans wrote long in
+    let read = plan_writes image other s s' live (return_effect image r) t pieces w.lies is' (led s s' w.tidy leads).longer u.spans u.plans wrote long in
     record {
       lies = any_commanded image other s s' live t pieces w.lies w.tidy leads u.spans (u.document ∙ ap (λ z. after z s.document) (sym read.0)) read.1;
       tidy = is';
@@ -255,4 +225,53 @@ undos_steady image other s s' live f formers r returns d x pieces lies is back n
     let t : Turn = undo_turn r d x in
     let w : LiesWith image live s (r ∷ returns) = record { lies = lies_loosely image live s lies; tidy = sound_tidy s is; back = back } in
     let u : UndoIs image s s' live r t pieces = undo_is image s s' live f formers r returns d x pieces w newest goes fits plan in
-    ((planned image other s s' live (return_effect image r) t pieces lies is (inr goes) u.spans u.document u.plans wrote long).1, stays_sound s s' is (inr goes))
+    ((planned image other s s' live (return_effect image r) t pieces lies is (inr (inl goes)) u.spans u.document u.plans wrote long).1, stays_sound s s' is (inr (inl goes)))
+
+-- Groups, from their plans, with what brings the former documents back.
+
+group_turns : (s s' : State) (g : Groups s s') (t : Turn) → LiesAsPlaced s s' g t → TurnsAt s.layout s'.layout t
+group_turns s s' g t at =
+    let l : Layout = s.layout in
+    let l' : Layout = s'.layout in
+    let is : g.placed ≡ _ = g.places.is in
+    let header : l'.header.span ≡ l.header.span = ap (λ (z : State). z.layout.header.span) (sym g.goes) in
+    let dir : l'.directory ≡ g.places.directory.places = ap (λ (z : State). z.layout.directory) (sym g.goes) ∙ ap (λ (z : Placed). z.directory) is in
+    let att : l'.attdir ≡ g.places.attdir.places = ap (λ (z : State). z.layout.attdir) (sym g.goes) ∙ ap (λ (z : Placed). z.attdir) is in
+    record {
+      header = header;
+      directory = subst (SetsAt (λ (d : Directory). d.segment) t.directory l.directory) (sym dir) at.directory_at;
+      tiles = put_in l g.effect.subblocks g.places.tiles;
+      tiles_at = put_at (λ (x : Tile). x.segment) l t.tiles g.effect.subblocks g.places.tiles at.tiles at.tiles_at;
+      subblocks = ap (λ (z : State). z.layout.subblocks) (sym g.goes) ∙ ap (λ (z : Placed). z.items.subblocks) is;
+      attdir = subst (SetsAt (λ (d : Directory). d.segment) t.attdir l.attdir) (sym att) at.attdir_at;
+      atts = put_in l g.effect.attachments g.places.attachments;
+      atts_at = put_at (λ (x : AttItem). x.segment) l t.attachments g.effect.attachments g.places.attachments at.attachments at.attachments_at;
+      attachments = ap (λ (z : State). z.layout.attachments) (sym g.goes) ∙ ap (λ (z : Placed). z.items.attachments) is;
+      metadata = subst (SetsAt (λ (m : MetaItem). m.segment) t.metadata l.metadata) (sym (ap (λ (z : State). z.layout.metadata) (sym g.goes) ∙ ap (λ (z : Placed). z.items.metadata) is))
+          (set_at l t.metadata g.effect.metadata l.metadata g.places.metadata at.metadata at.metadata_at);
+    }
+
+group_document : (s s' : State) (g : Groups s s') → s'.document ≡ after g.effect s.document
+group_document s s' g = ap (λ (z : State). z.document) (sym g.goes)
+
+pub groups_keep : (image other : List ℕ) (s s' : State) (live : Live) (g : Groups s s') (t : Turn) (pieces : List Piece) (returns : List Return) → LiesWith image live s returns
+    → LiesAsPlaced s s' g t → Plans image s.layout s'.layout live g.effect t pieces → Wrote image other pieces → length other ≡ s'.layout.length
+    → LiesWith other (turned t live) s' (undoing g.edits t live s.layout ∷ take (kept_formers g.edits s) returns)
+groups_keep image other s s' live g t pieces returns w at plan wrote long =
+    let leads : Leads s s' = inr (inr g) in
+    let is' : IsTidy s' = stays_tidy s s' w.tidy leads in
+    let spans : SpansAt s'.layout (turned t live) = spans_follow s.layout s'.layout live t w.lies.extents (group_turns s s' g t at) in
+    let read = plan_writes image other s s' live g.effect t pieces w.lies is' (led s s' w.tidy leads).longer spans plan wrote long in
+    record {
+      lies = any_commanded image other s s' live t pieces w.lies w.tidy leads spans (group_document s s' g ∙ ap (λ z. after z s.document) (sym read.0)) read.1;
+      tidy = is';
+      back = groups_bring_back image other s s' live t pieces returns w.lies w.tidy g (sym read.0) spans read.1 w.back;
+    }
+
+pub groups_steady : (image other : List ℕ) (s s' : State) (live : Live) (g : Groups s s') (t : Turn) (pieces : List Piece) → Lies image live s → IsSound s
+    → LiesAsPlaced s s' g t → Plans image s.layout s'.layout live g.effect t pieces → Wrote image other pieces → length other ≡ s'.layout.length
+    → Lies other (turned t live) s' × IsSound s'
+groups_steady image other s s' live g t pieces lies is at plan wrote long =
+    let leads : Leads s s' = inr (inr g) in
+    let spans : SpansAt s'.layout (turned t live) = spans_follow s.layout s'.layout live t (lies_loosely image live s lies).extents (group_turns s s' g t at) in
+    ((planned image other s s' live g.effect t pieces lies is leads spans (group_document s s' g) plan wrote long).1, stays_sound s s' is leads)

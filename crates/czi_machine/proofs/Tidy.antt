@@ -3,28 +3,31 @@ use Rattle.std.proofs.Common.{◌≡◌, ℕ, zero, suc, ◌+◌, ◌≤◌, ◌
 use Rattle.std.specs.List.{AllByRecursion, filter, list_any}
 use Rattle.std.proofs.lemmas.Bool.{cases_lt, cases_Bool}
 use Rattle.std.proofs.lemmas.List.Elements.{filter-append}
+use Rattle.std.proofs.lemmas.List.{map-append}
 use Rattle.czi_format.specs.Document.{Document}
 use Rattle.czi_format.specs.Layout.{Place, Layout}
 use Rattle.czi_format.specs.Span.{Span, end_of}
 use Rattle.czi_format.specs.Space.{Space, same_span, without}
 use Rattle.czi_format.proofs.Local.{All-append}
+use Rattle.czi_format.proofs.Rules.{on_ok}
 use Rattle.czi_machine.specs.Cover.{between, cover, Chained, IsWhole, LiesInOne}
 use Rattle.czi_machine.specs.Edit.{DocumentEffect}
-use Rattle.czi_machine.specs.Machine.{edited, restored}
+use Rattle.czi_machine.specs.Machine.{edited, restored, kept_formers}
 use Rattle.czi_machine.specs.Places.{Next, Placed, Fitted, fit_one, fit_each, fit_option, stays_or_back, edit_next, undo_next, placed, relaid, leaving, staying, items_asked, directories_asked, directories, live_places, can_be_used, space_of}
-use Rattle.czi_machine.specs.Sound.{all_places, live_spans, dead_held, AreDistinct, IsTidy}
+use Rattle.czi_machine.specs.Sound.{all_places, live_spans, dead_held, AreDistinct, IsTidy, IsExact, AreItems, IsSound}
 use Rattle.czi_machine.specs.State.{Items, Former, State, held, held_by, items_of, item_places, item_spans, spans_of, not_among}
-use Rattle.czi_format.proofs.Rules.{on_ok}
 use Rattle.czi_machine.specs.Writes.{dead}
-use Rattle.czi_machine.proofs.Asking.{going_back, spans-append, ok_is}
+use Rattle.czi_machine.proofs.Asking.{going_back, spans-append}
 use Rattle.czi_machine.proofs.Cover.{between_high, without_in, without_out, cover-append, cover-deleted_after}
 use Rattle.czi_machine.proofs.InOne.{in_deleted_after, freed_in}
 use Rattle.czi_machine.proofs.Keeps.{deleted_after_whole_from, deleted_after_chained_from}
 use Rattle.czi_machine.proofs.Leaving.{among_themselves, among_before, among_behind, cover-split, cover-fewer_of, All-fewer_of, not_fewer}
-use Rattle.czi_machine.proofs.Nexts.{edit_goes_back, edit_is_next, undo_goes_back, undo_is_next, held_first}
+use Rattle.czi_machine.proofs.Nexts.{edit_goes_back, edit_is_next, undo_goes_back, undo_is_next, held_first, edit_well, edit_directories_well, undo_well, undo_directories_well}
 use Rattle.czi_machine.proofs.Placing.{IsNext, Placing, placing, covers_own, used_is, used_covered, used_past, used_whole_or_apart, avoids_held, held_covered, held_parts, few_items, live_parts, parts_live, cover-live_places, leaving_staying, leaving_some, freed_whole, without_whole_apart}
 use Rattle.czi_machine.proofs.Steady.{on_all}
 use Rattle.czi_machine.proofs.Tiled.{All-both, All-filter, All-map, map-All, All-weaken, between_one}
+use Rattle.czi_machine.proofs.Restated.{ok_is}
+use Rattle.czi_machine.proofs.Exact.{relaid_exact, sound_tidy, tidy_sound, nothing_dead_held}
 
 -- what is freed, and what is dead
 freed_of : Layout → Next → List Span
@@ -133,10 +136,9 @@ held-All_of P d newer (f ∷ formers) (suc n) all =
     let both = All-append P (filter d own) (filter d (held_by f.items formers)) (subst (AllByRecursion P) (filter-append d own (held_by f.items formers)) all) in
     subst (AllByRecursion P) (sym (filter-append d own (held_by f.items (take n formers)))) (All-both P (filter d own) (filter d (held_by f.items (take n formers))) both.0 (held-All_of P d f.items formers n both.1))
 
-All-taken : {X : Type 0} (P : X → Type 0) (n : ℕ) (xs : List X) → AllByRecursion P xs → AllByRecursion P (take n xs)
-All-taken P zero xs all = tt
-All-taken P (suc n) [] all = tt
+pub All-taken : {X : Type 0} (P : X → Type 0) (n : ℕ) (xs : List X) → AllByRecursion P xs → AllByRecursion P (take n xs)
 All-taken P (suc n) (x ∷ xs) all = (all.0, All-taken P n xs all.1)
+All-taken P n xs all = tt
 
 everything : (ps : List Place) → filter (λ (q : Place). true) ps ≡ ps
 everything [] = refl
@@ -167,16 +169,15 @@ parts_cover : (d : Place → Bool) (xs ys : List Place) (p : ℕ) → cover (spa
 parts_cover d xs ys p = ap (λ l. cover (spans_of l) p) (filter-append d xs ys) ∙ (ap (λ l. cover l p) (spans-append (filter d xs) (filter d ys)) ∙ cover-append (spans_of (filter d xs)) (spans_of (filter d ys)) p)
 
 -- after an edit
-pub tidy_edited : (s : State) (e : DocumentEffect) (d : Document) (pl : Placed) → IsTidy s → placed s.layout (space_of s) (edit_next s e) ≡ Ok pl → IsTidy (edited s d (relaid s.layout (edit_next s e) pl))
+pub tidy_edited : (s : State) (m : ℕ) (e : DocumentEffect) (d : Document) (pl : Placed) → IsTidy s → Placing s (edit_next s e) pl → IsTidy (edited s m d (relaid s.layout (edit_next s e) pl))
 unfolding freed_of dead_of
-tidy_edited s e d pl is placed_is =
+tidy_edited s m e d pl is at =
     let n : Next = edit_next s e in
     let nx : IsNext s n = edit_is_next s e is in
-    let at : Placing s n pl = placing s n pl is nx placed_is in
     let l : Layout = s.layout in
     let l' : Layout = relaid l n pl in
     let items : List Place = item_places (items_of l) in
-    let rest : List Place = held_by (items_of l) (take 31 s.formers) in
+    let rest : List Place = held_by (items_of l) (take (kept_formers m s) s.formers) in
     let q : Place → Bool = λ x. not (list_any (same_span x.span) (item_spans pl.items)) in
     let r : Place → Bool = λ x. not (list_any (same_span x.span) (staying (items_asked n))) in
     let u : Place → Bool = can_be_used in
@@ -188,7 +189,7 @@ tidy_edited s e d pl is placed_is =
     let dead' : ℕ → ℕ = λ p. cover (spans_of (filter v (new ++ rest))) p in
     let dead_is : (p : ℕ) → dead' p ≡ cover (spans_of (filter v new)) p + cover (spans_of (filter v rest)) p = λ p. parts_cover v new rest p in
     let new_dead : (p : ℕ) → cover (spans_of (filter v new)) p ≤ cover (dead_of l n) p = λ p. omega (arith, cover-fewer_of v q r items p fewer, parts_cover v gone gone_directories p) in
-    let rest_dead : (p : ℕ) → cover (spans_of (filter v rest)) p ≤ cover (dead_held s) p = λ p. held-fewer v (items_of l) s.formers 31 p in
+    let rest_dead : (p : ℕ) → cover (spans_of (filter v rest)) p ≤ cover (dead_held s) p = λ p. held-fewer v (items_of l) s.formers (kept_formers m s) p in
     let none_back : (p : ℕ) → cover (going_back (items_asked n)) p ≡ 0 = λ p. ap (λ z. cover z p) (edit_goes_back s e) in
     let free : (p : ℕ) → 1 ≤ cover pl.used p → cover (held s) p ≡ 0 = λ p k. elim (cases_lt 0 (cover (held s) p)) [
       | inl h ↦ absurd (omega (arith, k, used_is s n pl at p, none_back p, avoids_held s n pl at p is h))
@@ -198,7 +199,7 @@ tidy_edited s e d pl is placed_is =
     (λ k. omega (arith, dead_is p, new_dead p, rest_dead p)) (λ k. omega (arith, dead_is p, new_dead p, rest_dead p, free p k, held_parts s p)) in
     let deleted = relaid_deleted s n pl is nx at in
     let were : AreDistinct items = tidy_items s is in
-    let rest_few : (p : ℕ) → cover (spans_of rest) p ≤ cover (held s) p = λ p. held_few (items_of l) s.formers 31 p in
+    let rest_few : (p : ℕ) → cover (spans_of rest) p ≤ cover (held s) p = λ p. held_few (items_of l) s.formers (kept_formers m s) p in
     let P : Place → Type 0 = λ x. LiesInOne x.span l'.deleted in
     let freed_ins : AllByRecursion P (filter u gone) =
     (All-append P (filter u gone) (filter u gone_directories) (subst (AllByRecursion P) (filter-append u gone gone_directories)
@@ -207,8 +208,8 @@ tidy_edited s e d pl is placed_is =
     let held_places : List Place = held_by (items_of l) s.formers in
     let rest_in : AllByRecursion (λ (h : Span). LiesInOne h l.deleted) (spans_of (filter u rest)) =
     map-All (λ (x : Place). x.span) (λ (h : Span). LiesInOne h l.deleted) (filter u rest)
-    (held-All_of (λ (x : Place). LiesInOne x.span l.deleted) u (items_of l) s.formers 31 (All-map (λ (x : Place). x.span) (λ (h : Span). LiesInOne h l.deleted) (filter u held_places) is.held_in)) in
-    let rest_some : AllByRecursion (λ (x : Place). 0 < x.span.len) rest = held-All (λ (x : Place). 0 < x.span.len) (items_of l) s.formers 31 is.held.some in
+    (held-All_of (λ (x : Place). LiesInOne x.span l.deleted) u (items_of l) s.formers (kept_formers m s) (All-map (λ (x : Place). x.span) (λ (h : Span). LiesInOne h l.deleted) (filter u held_places) is.held_in)) in
+    let rest_some : AllByRecursion (λ (x : Place). 0 < x.span.len) rest = held-All (λ (x : Place). 0 < x.span.len) (items_of l) s.formers (kept_formers m s) is.held.some in
     let rest_still : AllByRecursion (λ (h : Span). LiesInOne h l'.deleted) (spans_of (filter u rest)) =
     still_in l n pl (filter u rest) (All-filter _ u rest rest_some) rest_in
     (λ p k. omega (arith, used_is s n pl at p, none_back p, avoids_held s n pl at p is (omega (arith, k, cover-split u rest p, rest_few p)))) in
@@ -234,7 +235,7 @@ tidy_edited s e d pl is placed_is =
       };
       held_in = map-All (λ (x : Place). x.span) (λ (h : Span). LiesInOne h l'.deleted) (filter u (new ++ rest)) (subst (AllByRecursion P) (sym (filter-append u new rest))
           (All-both P (filter u new) (filter u rest) new_in (All-map (λ (x : Place). x.span) (λ (h : Span). LiesInOne h l'.deleted) (filter u rest) rest_still)));
-      formers = (were, All-taken (λ (f : Former). AreDistinct (item_places f.items)) 31 s.formers is.formers);
+      formers = (were, All-taken (λ (f : Former). AreDistinct (item_places f.items)) (kept_formers m s) s.formers is.formers);
     }
 
 -- what stays, or goes back, lies where it is asked for
@@ -325,17 +326,17 @@ tidy_restored s f formers pl is newest placed_is =
     }
 
 -- held spans lay below the length
-pub held_edited : (s : State) (d : Document) (l : Layout) (p : ℕ) → IsTidy s → s.layout.length ≤ p → cover (held (edited s d l)) p ≡ 0
-held_edited s d l p is behind =
+pub held_edited : (s : State) (m : ℕ) (d : Document) (l : Layout) (p : ℕ) → IsTidy s → s.layout.length ≤ p → cover (held (edited s m d l)) p ≡ 0
+held_edited s m d l p is behind =
     let items : List Place = item_places (items_of s.layout) in
     let new : List Place = not_among (item_spans (items_of l)) items in
-    let rest : List Place = held_by (items_of s.layout) (take 31 s.formers) in
+    let rest : List Place = held_by (items_of s.layout) (take (kept_formers m s) s.formers) in
     omega (
       arith,
       ap (λ z. cover z p) (spans-append new rest),
       cover-append (spans_of new) (spans_of rest) p,
       cover-split (λ (x : Place). list_any (same_span x.span) (item_spans (items_of l))) items p,
-      held_few (items_of s.layout) s.formers 31 p,
+      held_few (items_of s.layout) s.formers (kept_formers m s) p,
       held_covered s p is,
       is.inside p behind,
       cover-live_places s.layout p,
@@ -356,13 +357,7 @@ among_either s (x ∷ xs) ys e = elim (cases_Bool (same_span s x)) [
 ]
 
 live_split : (l : Layout) → spans_of (live_places l) ≡ spans_of (option_to_list l.directory) ++ (spans_of l.subblocks ++ (spans_of (option_to_list l.attdir) ++ (spans_of l.attachments ++ spans_of (option_to_list l.metadata))))
-live_split l =
-    let D : List Place = option_to_list l.directory in
-    let X : List Place = option_to_list l.attdir in
-    let M : List Place = option_to_list l.metadata in
-    spans-append D (l.subblocks ++ (X ++ (l.attachments ++ M)))
-    ∙ ap (λ z. spans_of D ++ z) (spans-append l.subblocks (X ++ (l.attachments ++ M))
-    ∙ ap (λ z. spans_of l.subblocks ++ z) (spans-append X (l.attachments ++ M) ∙ ap (λ z. spans_of X ++ z) (spans-append l.attachments M)))
+live_split l = simp map-append
 
 -- items and directories are live
 item_live : (l : Layout) (t : Span) → list_any (same_span t) (item_spans (items_of l)) ≡ true → list_any (same_span t) (spans_of (live_places l)) ≡ true
@@ -372,7 +367,7 @@ item_live l t e =
     let X : List Span = spans_of (option_to_list l.attdir) in
     let A : List Span = spans_of l.attachments in
     let M : List Span = spans_of (option_to_list l.metadata) in
-    let parts : item_spans (items_of l) ≡ S ++ (A ++ M) = spans-append l.subblocks (l.attachments ++ option_to_list l.metadata) ∙ ap (λ z. S ++ z) (spans-append l.attachments (option_to_list l.metadata)) in
+    let parts : item_spans (items_of l) ≡ S ++ (A ++ M) = simp map-append in
     ap (list_any (same_span t)) (live_split l)
     ∙ among_behind t D (S ++ (X ++ (A ++ M))) (elim (among_either t S (A ++ M) (ap (list_any (same_span t)) (sym parts) ∙ e)) [
       | inl a ↦ among_before t S (X ++ (A ++ M)) a
@@ -447,19 +442,19 @@ HeldFrom s h = (list_any (same_span h) (spans_of (live_places s.layout)) ≡ tru
 within_more : (xs : List Span) (X : ℕ → ℕ) → ((p : ℕ) → cover xs p ≤ X p) → AllByRecursion (λ (h : Span). (p : ℕ) → between h.at (end_of h) p ≤ X p) xs
 within_more xs X fewer = All-weaken (λ (h : Span). (p : ℕ) → between h.at (end_of h) p ≤ cover xs p) _ (λ h own p. omega (arith, own p, fewer p)) xs (covers_own xs)
 
-pub edited_from : (s : State) (d : Document) (l : Layout)
-    → AllByRecursion (λ (h : Span). (list_any (same_span h) (spans_of (live_places s.layout)) ≡ true) ⊎ ((p : ℕ) → between h.at (end_of h) p ≤ cover (held s) p)) (held (edited s d l))
+pub edited_from : (s : State) (m : ℕ) (d : Document) (l : Layout)
+    → AllByRecursion (λ (h : Span). (list_any (same_span h) (spans_of (live_places s.layout)) ≡ true) ⊎ ((p : ℕ) → between h.at (end_of h) p ≤ cover (held s) p)) (held (edited s m d l))
 unfolding HeldFrom
-edited_from s d l =
+edited_from s m d l =
     let items : List Place = item_places (items_of s.layout) in
     let new : List Place = not_among (item_spans (items_of l)) items in
-    let rest : List Place = held_by (items_of s.layout) (take 31 s.formers) in
+    let rest : List Place = held_by (items_of s.layout) (take (kept_formers m s) s.formers) in
     let own : AllByRecursion (λ (q : Place). HeldFrom s q.span) items =
     All-weaken (λ (q : Place). list_any (same_span q.span) (item_spans (items_of s.layout)) ≡ true) (λ (q : Place). HeldFrom s q.span) (λ q e. inl (item_live s.layout q.span e)) items
     (All-map (λ (q : Place). q.span) (λ t. list_any (same_span t) (item_spans (items_of s.layout)) ≡ true) items (among_themselves (item_spans (items_of s.layout)))) in
     subst (AllByRecursion (HeldFrom s)) (sym (spans-append new rest)) (All-both (HeldFrom s) (spans_of new) (spans_of rest)
     (map-All (λ (q : Place). q.span) (HeldFrom s) new (All-filter _ _ items own))
-    (All-weaken _ (HeldFrom s) (λ h own. inr own) (spans_of rest) (within_more (spans_of rest) (λ p. cover (held s) p) (λ p. held_few (items_of s.layout) s.formers 31 p))))
+    (All-weaken _ (HeldFrom s) (λ h own. inr own) (spans_of rest) (within_more (spans_of rest) (λ p. cover (held s) p) (λ p. held_few (items_of s.layout) s.formers (kept_formers m s) p))))
 
 pub restored_from : (s : State) (f : Former) (formers : List Former) (pl : Placed) → IsTidy s → s.formers ≡ f ∷ formers → placed s.layout (space_of s) (undo_next s f) ≡ Ok pl
     → AllByRecursion (λ (h : Span). (list_any (same_span h) (spans_of (live_places s.layout)) ≡ true) ⊎ ((p : ℕ) → between h.at (end_of h) p ≤ cover (held s) p)) (held (restored s f formers (relaid s.layout (undo_next s f) pl)))
@@ -468,3 +463,35 @@ restored_from s f formers pl is newest placed_is =
     let same : pl.items ≡ f.items = undo_places s f pl placed_is in
     let rest : List Span = held (restored s f formers (relaid s.layout (undo_next s f) pl)) in
     All-weaken _ (HeldFrom s) (λ h own. inr own) rest (within_more rest (λ p. cover (held s) p) (λ p. omega (arith, ap (λ z. cover (spans_of (held_by z formers)) p) same, held_first s f formers p newest)))
+
+-- A sound state stays sound: after an edit, and after an undo.
+
+-- the items of a layout that fills the image
+exact_items : (s : State) → IsSound s → AreItems (items_of s.layout)
+exact_items s is = record {
+  whole = map-All (λ (p : Place). p.span) IsWhole (item_places (items_of s.layout)) (live_parts (λ (p : Place). IsWhole p.span) s.layout (All-map (λ (p : Place). p.span) IsWhole (live_places s.layout) is.layout.live_whole.1)).0;
+  once = λ p. omega (arith, few_items s p (sound_tidy s is));
+  walked = (live_parts (λ (p : Place). p.walked ≡ true) s.layout is.layout.walked.1).0;
+}
+
+no_dead : (s : State) → IsSound s → (p : ℕ) → cover (dead_held s) p ≡ 0
+no_dead s is p = ap (λ z. cover z p) (nothing_dead_held s is.formers)
+
+pub sound_edited : (s : State) (m : ℕ) (e : DocumentEffect) (d : Document) (pl : Placed) → IsSound s → Placing s (edit_next s e) pl → IsSound (edited s m d (relaid s.layout (edit_next s e) pl))
+sound_edited s m e d pl is at =
+    let tidy : IsTidy s = sound_tidy s is in
+    let n : Next = edit_next s e in
+    let nx : IsNext s n = edit_is_next s e tidy in
+    let exact : IsExact (relaid s.layout n pl) = relaid_exact s n pl tidy is.layout (no_dead s is) nx (edit_well s e is.layout) (edit_directories_well s e is.layout) at in
+    tidy_sound (edited s m d (relaid s.layout n pl)) (tidy_edited s m e d pl tidy at) exact (exact_items s is, All-taken (λ (f : Former). AreItems f.items) (kept_formers m s) s.formers is.formers)
+
+pub sound_restored : (s : State) (f : Former) (formers : List Former) (pl : Placed) → IsSound s → s.formers ≡ f ∷ formers → placed s.layout (space_of s) (undo_next s f) ≡ Ok pl
+    → IsSound (restored s f formers (relaid s.layout (undo_next s f) pl))
+sound_restored s f formers pl is newest placed_is =
+    let tidy : IsTidy s = sound_tidy s is in
+    let n : Next = undo_next s f in
+    let nx : IsNext s n = undo_is_next s f formers tidy newest in
+    let at : Placing s n pl = placing s n pl tidy nx placed_is in
+    let all : AllByRecursion (λ (g : Former). AreItems g.items) (f ∷ formers) = subst (AllByRecursion (λ (g : Former). AreItems g.items)) newest is.formers in
+    let exact : IsExact (relaid s.layout n pl) = relaid_exact s n pl tidy is.layout (no_dead s is) nx (undo_well s f all.0) (undo_directories_well s f is.layout) at in
+    tidy_sound (restored s f formers (relaid s.layout n pl)) (tidy_restored s f formers pl tidy newest placed_is) exact all.1

@@ -1,5 +1,5 @@
 -- The plan of any command, as pieces: what each segment that it brings holds, and what is written beside them.
-use Rattle.std.specs.Prelude.{◌≡◌, ◌⊎◌, ⊤, ℕ, ◌+◌, ◌*◌, ◌≤◌, ◌<◌, ◌^◌, pos, List, [], ◌∷◌, map, length, Some, None}
+use Rattle.std.specs.Prelude.{◌≡◌, ◌⊎◌, ⊤, ℕ, ◌+◌, ◌*◌, ◌≤◌, ◌<◌, ◌^◌, pos, List, [], ◌∷◌, map, length, Option, Some, None}
 use Rattle.std.specs.List.{AllByRecursion}
 use Rattle.czi_format.specs.Document.{Subblock, Attachment, Metadata}
 use Rattle.czi_format.specs.Entry.{Entry, IsEntry, A1, IsA1}
@@ -10,6 +10,7 @@ use Rattle.czi_machine.specs.Change.{Act, keep, omit, bring, Setting, same, to}
 use Rattle.czi_machine.specs.Data.{directory_data, attdir_data, subblock_data, attachment_data, metadata_data}
 use Rattle.czi_machine.specs.Edit.{DocumentEffect, after}
 use Rattle.czi_machine.specs.Laws.{Lies, LiesLoosely, Leads}
+use Rattle.czi_machine.specs.Patch.{PatchesDirectory, PatchesAttdir}
 use Rattle.czi_machine.specs.Puts.{PutsSegment, PutsHeader, IsSubblock, IsAttachment, IsMetadata}
 use Rattle.czi_machine.specs.Sound.{IsTidy, IsSound}
 use Rattle.czi_machine.specs.State.{State}
@@ -41,10 +42,10 @@ Sets P (to None) (to (Some y)) = ⊥
 Sets P (to (Some x)) (to None) = ⊥
 Sets P (to (Some x)) (to (Some y)) = P x y
 
--- A subblock that is written, and one of which the data lies in the image.
+-- A subblock that is written, with its data's length without padding as UsedSize, and one of which the data lies in the image.
 pub record WritesTile (pieces : List Piece) (x : Tile) (s : Subblock) : Type 0 where
   pub item : IsSubblock x s
-  pub sound : x.segment.used ≤ x.segment.allocated
+  pub used : x.segment.used ≡ length (subblock_data x.entry s 0)
   pub padding : ℕ
   pub puts : PutsSegment pieces x.segment (subblock_data x.entry s padding)
 
@@ -63,7 +64,7 @@ BringsTile image pieces x s = WritesTile pieces x s ⊎ FindsTile image pieces x
 -- an attachment
 pub record WritesAttachment (pieces : List Piece) (x : AttItem) (a : Attachment) : Type 0 where
   pub item : IsAttachment x a
-  pub sound : x.segment.used ≤ x.segment.allocated
+  pub used : x.segment.used ≡ length (attachment_data x.entry a.bytes 0)
   pub padding : ℕ
   pub puts : PutsSegment pieces x.segment (attachment_data x.entry a.bytes padding)
 
@@ -82,7 +83,7 @@ BringsAttachment image pieces x a = WritesAttachment pieces x a ⊎ FindsAttachm
 -- the metadata
 pub record WritesMetadata (pieces : List Piece) (x : MetaItem) (m : Metadata) : Type 0 where
   pub item : IsMetadata x m
-  pub sound : x.segment.used ≤ x.segment.allocated
+  pub used : x.segment.used ≡ length (metadata_data m 0)
   pub padding : ℕ
   pub puts : PutsSegment pieces x.segment (metadata_data m padding)
 
@@ -100,7 +101,7 @@ BringsMetadata image pieces x m = WritesMetadata pieces x m ⊎ FindsMetadata im
 -- A directory that is written.
 pub record WritesDirectory (pieces : List Piece) (d : Directory) (es : List Entry) : Type 0 where
   pub id : d.segment.id ≡ directory_id
-  pub sound : d.segment.used ≤ d.segment.allocated
+  pub used : d.segment.used ≡ length (directory_data es 0)
   pub room : 128 ≤ d.segment.allocated
   pub count : d.count ≡ length es
   pub few : length es ≤ 2 ^ 20
@@ -110,7 +111,7 @@ pub record WritesDirectory (pieces : List Piece) (d : Directory) (es : List Entr
 
 pub record WritesAttdir (pieces : List Piece) (d : Directory) (es : List A1) : Type 0 where
   pub id : d.segment.id ≡ attdir_id
-  pub sound : d.segment.used ≤ d.segment.allocated
+  pub used : d.segment.used ≡ length (attdir_data es 0)
   pub room : 256 + 128 * length es ≤ d.segment.allocated
   pub count : d.count ≡ length es
   pub few : length es ≤ 2 ^ 12
@@ -118,26 +119,26 @@ pub record WritesAttdir (pieces : List Piece) (d : Directory) (es : List A1) : T
   pub padding : ℕ
   pub puts : PutsSegment pieces d.segment (attdir_data es padding)
 
--- the items that a directory lists: where it stays, so do they
-abbrev pub ListsTiles : List Piece → Setting Directory → List Tile → List Tile → Type 0
-ListsTiles pieces same old new = new ≡ old
-ListsTiles pieces (to None) old new = new ≡ []
-ListsTiles pieces (to (Some d)) old new = WritesDirectory pieces d (map (λ (x : Tile). x.entry) new)
+-- The items that a directory lists: where it stays, so do they; else it is new, or changed in place.
+abbrev pub ListsTiles : List Piece → Setting Directory → Option Directory → List Tile → List Tile → Type 0
+ListsTiles pieces same was old new = new ≡ old
+ListsTiles pieces (to None) was old new = new ≡ []
+ListsTiles pieces (to (Some d)) was old new = WritesDirectory pieces d (map (λ (x : Tile). x.entry) new) ⊎ PatchesDirectory pieces was d (map (λ (x : Tile). x.entry) old) (map (λ (x : Tile). x.entry) new)
 
-abbrev pub ListsAttachments : List Piece → Setting Directory → List AttItem → List AttItem → Type 0
-ListsAttachments pieces same old new = new ≡ old
-ListsAttachments pieces (to None) old new = new ≡ []
-ListsAttachments pieces (to (Some d)) old new = WritesAttdir pieces d (map (λ (x : AttItem). x.entry) new)
+abbrev pub ListsAttachments : List Piece → Setting Directory → Option Directory → List AttItem → List AttItem → Type 0
+ListsAttachments pieces same was old new = new ≡ old
+ListsAttachments pieces (to None) was old new = new ≡ []
+ListsAttachments pieces (to (Some d)) was old new = WritesAttdir pieces d (map (λ (x : AttItem). x.entry) new) ⊎ PatchesAttdir pieces was d (map (λ (x : AttItem). x.entry) old) (map (λ (x : AttItem). x.entry) new)
 
 -- The plan of what becomes of a document, and of what is live, between two layouts. Of the image it names the bytes of what
 -- goes back alone.
 pub record Plans (image : List ℕ) (l l' : Layout) (live : Live) (e : DocumentEffect) (t : Turn) (pieces : List Piece) : Type 0 where
-  pub directory : ListsTiles pieces t.directory live.tiles (turned t live).tiles
+  pub directory : ListsTiles pieces t.directory live.directory live.tiles (turned t live).tiles
   pub tiles : Brings (BringsTile image pieces) t.tiles e.subblocks
-  pub attdir : ListsAttachments pieces t.attdir live.attachments (turned t live).attachments
+  pub attdir : ListsAttachments pieces t.attdir live.attdir live.attachments (turned t live).attachments
   pub attachments : Brings (BringsAttachment image pieces) t.attachments e.attachments
   pub metadata : Sets (BringsMetadata image pieces) t.metadata e.metadata
-  pub around : WritesAround t l l' pieces
+  pub around : WritesAround live.header t l l' pieces
   pub small : l'.length < 2 ^ 63
 
 -- After a command's plan was written, the image shows the document of the state to which the command leads, has that state's
