@@ -2,9 +2,9 @@
 
 ghost use Rattle.std.specs.Prelude.{◌≡◌, false, List, ℕ, OnOk};
 ghost use Rattle.std.specs.Option.{ForSome};
-ghost use Rattle.czi_journal.specs.Journals.{slot_of};
+ghost use Rattle.czi_journal.specs.Journals.{SaysAsBeforeOrVoid, slot_of};
 ghost use Rattle.czi_links.specs.Reading.{Void};
-ghost use Rattle.czi_rig.specs.Disk.{Everywhere, IsAtRest};
+ghost use Rattle.czi_rig.specs.Disk.{Everywhere, IsAtRest, Left};
 ghost use Rattle.czi_rig.specs.State.{LeavesOther, known};
 ghost use Rattle.czi_rig.specs.Passes.{GoesOn};
 ghost use Rattle.czi_rig.specs.Faults.{Faults, device_of, failed_at};
@@ -28,6 +28,9 @@ pub fn close<R: Rig>(rig: &mut R, journal: Journal) -> Result<(), Failed>
     // Where the image is at rest and stands for itself, each pair that a crash leaves stands for it.
     ensures moments { ForSome (devices (R.state rig.old)) (λ all. IsAtRest all.image → StandsForItself all
         → Throughout R.Rig rig.old rig.new (λ image journal said. Recovered image journal all.image.seen × (said ≡ all.said))) }
+    // It says what it said, or is void; the image is left alone.
+    ensures leaves { ForSome (devices (R.state rig.old)) (λ all. Throughout R.Rig rig.old rig.new (λ image j said.
+        Left all.image.durable image × SaysAsBeforeOrVoid all.journal.durable j × (said ≡ all.said))) }
     ensures closed { OnOk result (ForSome (known (R.state rig.new) File.Journal) (Everywhere (λ bytes. slot_of bytes ≡ Void))) }
     ensures synced { OnOk result ((journal.armed ≡ false → ForSome (known (R.state rig.old) File.Journal) IsAtRest) → ForSome (known (R.state rig.new) File.Journal) IsAtRest) }
     ensures idle { journal.armed ≡ false → Untouched R.Rig rig.old rig.new }

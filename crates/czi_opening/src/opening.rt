@@ -52,6 +52,7 @@ pub fn open<R: Rig>(alloc: Global, rig: &mut R) -> Result<Opened, OpenError>
         Tells image journal (R.state rig.new) error))) }
     // Until both files are synced nothing is left that the start couldn't leave. From then on each pair stands for what the start did.
     ensures moments { ForSome (devices (R.state rig.old)) (λ all. OpensFrom R.Rig rig.old rig.new (Stays all) result) }
+    ensures journal { seen_of (R.state rig.new) File.Journal ≡ seen_of (R.state rig.old) File.Journal }
     ensures said { (R.state rig.new).said ≡ (R.state rig.old).said }
     ensures goes_on { GoesOn (R.state rig.old) (R.state rig.new) }
     ensures cause { Faults (fault_at open_device result) (R.state rig.old) (R.state rig.new) }
@@ -74,6 +75,7 @@ fn open_synced<R: Rig>(alloc: Global, rig: &mut R) -> Result<Opened, OpenError>
     ensures refused { IfErr result (λ error. ForSome (seen_of (R.state rig.old) File.Image) (λ image. ForSome (seen_of (R.state rig.old) File.Journal) (λ journal.
         Tells image journal (R.state rig.new) error))) }
     ensures moments { ForSome (devices (R.state rig.old)) (λ all. Throughout R.Rig rig.old rig.new (Stays all)) }
+    ensures kept { known (R.state rig.new) File.Journal ≡ known (R.state rig.old) File.Journal }
     ensures said { (R.state rig.new).said ≡ (R.state rig.old).said }
     ensures goes_on { GoesOn (R.state rig.old) (R.state rig.new) }
     ensures cause { Faults (fault_at open_device result) (R.state rig.old) (R.state rig.new) }

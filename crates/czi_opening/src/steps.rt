@@ -33,6 +33,7 @@ const GUID_AT: u64 = 64;
 pub(crate) fn sync_both<R: Rig>(rig: &mut R) -> Result<(), OpenError>
     ensures image { OnOk result (known (R.state rig.new) File.Image ≡ option_map at_rest (seen_of (R.state rig.old) File.Image)) }
     ensures journal { OnOk result (known (R.state rig.new) File.Journal ≡ option_map at_rest (seen_of (R.state rig.old) File.Journal)) }
+    ensures kept { seen_of (R.state rig.new) File.Journal ≡ seen_of (R.state rig.old) File.Journal }
     ensures device { IfErr result IsDevice }
     ensures moments { AddsNothing R.Rig rig.old rig.new }
     ensures said { (R.state rig.new).said ≡ (R.state rig.old).said }

@@ -31,7 +31,7 @@ impl Model for Map {
 }
 
 impl Map {
-    ghost use Rattle.std.specs.Prelude.{◌≡◌, ◌+◌, ◌≤◌, ◌∷◌, [], map, OnOk, OnErr, IfOk, IsTrue};
+    ghost use Rattle.std.specs.Prelude.{◌≡◌, ◌+◌, ◌≤◌, ◌∷◌, [], length, map, OnOk, OnErr, IfOk, IsTrue};
     ghost use Rattle.czi_format.specs.Span.{end_of, is_aligned};
     ghost use Rattle.czi_format.specs.Space.{without, place_for, use_all, with_freed, with_held, released, cut_to, free_runs};
     ghost use Rattle.czi_num.specs.Span.{span_of};
@@ -87,6 +87,7 @@ impl Map {
         requires whole { IsWhole (span_of span.now) }
         requires inside { LiesInOne (span_of span.now) self.old.extents }
         ensures map { Has self.new (without (span_of span.now ∷ []) self.old.extents) self.old.held self.old.length }
+        ensures one_more { length self.new.extents ≤ length self.old.extents + 1 }
         ensures spare { self.old.spare ≤ self.new.spare + 2 }
     {
         let i = ending_by(&self.extents, span.at);
@@ -111,6 +112,7 @@ impl Map {
         requires apart { MeetsNone (span_of span.now) self.old.extents }
         requires inside { end_of (span_of span.now) ≤ self.old.length }
         ensures map { Has self.new (with_freed (span_of span.now) self.old.extents) self.old.held self.old.length }
+        ensures one_more { length self.new.extents ≤ length self.old.extents + 1 }
         ensures spare { self.old.spare ≤ self.new.spare + 2 }
     {
         let i = ending_by(&self.extents, span.at);

@@ -17,10 +17,11 @@ use Rattle.czi_journal.specs.Journals.{slot_of, Counts}
 use Rattle.czi_journal.proofs.Slots.{number_or_not, counted_sound}
 use Rattle.czi_vault.specs.Recovered.{View, Stands, StandsNow, StandsFor, IsFree, applied, with_links}
 use Rattle.czi_vault.specs.Puts.{ranges, begun_each}
-use Rattle.czi_vault.specs.Alone.{IsPending, HasBytesBut100, Alone, AloneNow, Waits}
+use Rattle.czi_vault.specs.Alone.{IsPending, HasBytesBut100, Alone, AloneNow, KeepsOr, Waits}
+use Rattle.czi_vault.proofs.Commits.{Meets, exactly, exactly_is, while_switched}
 use Rattle.czi_vault.proofs.Switching.{BeforeOrHolds}
 use Rattle.czi_vault.proofs.Lists.{Fit, torn_each, length-with_links}
-use Rattle.czi_vault.proofs.Repair.{Fine, ends_fit, marked, linked, shortened, fit_marked, length-linked, length-shortened, applied_last}
+use Rattle.czi_vault.proofs.Repair.{StandsStill, Fine, ends_fit, marked, linked, shortened, fit_marked, length-linked, length-shortened, applied_last}
 
 with_links_off : (ls : List Bytes) (x : List ℕ) (k : ℕ) → Fit (length x) ls → (Covers (ranges ls) k → ⊥) → get_or (with_links ls x) k 0 ≡ get_or x k 0
 with_links_off [] x k fit off = refl
@@ -97,20 +98,37 @@ alone_of view r seen i zero has (inr (inl same)) = inl (⊎_elim (λ e. inr (rec
     at : (k : ℕ) → k < length view.bytes → (Covers view.holes k → ⊥) → get_or i 100 0 ≡ 0 → get_or i k 0 ≡ get_or view.bytes k 0
     at k lt out e = ⊎_elim (λ is. ap (λ (m : ℕ). get_or i m 0) is ∙ e ∙ sym (ap (λ (m : ℕ). get_or view.bytes m 0) is ∙ zero)) (λ not. same.each k not ∙ has.each k lt out not) (number_or_not k 100)
 
-abbrev pub AloneOr : View → List ℕ → Instant
-AloneOr view new image journal said = Alone view image ⊎ (image ≡ new)
+abbrev pub KeepsOrNew : View → List ℕ → List ℕ → Instant
+KeepsOrNew view new bytes image journal said = KeepsOr view new image journal × (said ≡ bytes)
+
+-- what holds at every moment twice over
+pub both : {D : Type 0} (rig : Ghosts D) {old new : D} {P Q : Instant} → Throughout rig old new P → Throughout rig old new Q → Throughout rig old new (λ image journal said. P image journal said × Q image journal said)
+both rig p q = record {
+  later = p.later;
+  each = λ t i j o le left. ⊎_elim (λ was. inl was) (λ a. ⊎_elim (λ was. inl was) (λ b. inr (a, b)) (q.each t i j o le left)) (p.each t i j o le left);
+}
 
 module _ (all : Devices) (r : Record) (view : View) (stands : StandsNow view all) (alone : AloneNow view all) (has : HasBytesBut100 view all.image.seen) (counts : Counts all.journal.seen)
-    (reads_image : Left all.image.durable all.image.seen) (reads_journal : Left all.journal.durable all.journal.seen) where
-  pub switch_alone : (image journal said : List ℕ) → BeforeOrHolds r all image journal said → AloneOr view (applied r all.image.seen) image journal said
-  switch_alone i j o p = inl (alone i all.journal.seen o (record { image_is = p.0; journal_is = reads_journal; said_is = p.2 }))
+    (reads_image : Left all.image.durable all.image.seen) (reads_journal : Left all.journal.durable all.journal.seen) (meets : Meets all r) where
+  pub switch_keeps : (image journal said : List ℕ) → BeforeOrHolds r all image journal said → KeepsOrNew view (applied r all.image.seen) all.said image journal said
+  switch_keeps i j o p =
+      let a : Alone view i = alone i all.journal.seen o (record { image_is = p.0; journal_is = reads_journal; said_is = p.2 }) in
+      let m = while_switched all r meets view stands i j o p in
+      (⊎_elim (λ s. inl (s, a)) (λ made. inr (made, inl a)) m.0, m.1)
 
-  apply_alone : (image journal said : List ℕ) → WaitsNow r all image journal said → AloneOr view (applied r all.image.seen) image journal said
-  apply_alone i j o w = alone_of view r all.image.seen i
-      (zero_at_100 view all.image.seen all.journal.seen counts (stands all.image.seen all.journal.seen all.said (record { image_is = reads_image; journal_is = reads_journal; said_is = refl }))) has w
+  apply_keeps : (image journal said : List ℕ) → StandsStill (exactly (applied r all.image.seen)) all.said image journal said × WaitsNow r all image journal said → KeepsOrNew view (applied r all.image.seen) all.said image journal said
+  apply_keeps i j o p = (
+    inr (
+      exactly_is (applied r all.image.seen) all.said i j o p.0,
+      alone_of view r all.image.seen i
+          (zero_at_100 view all.image.seen all.journal.seen counts (stands all.image.seen all.journal.seen all.said (record { image_is = reads_image; journal_is = reads_journal; said_is = refl }))) has p.1,
+    ),
+    p.0.1,
+  )
 
-  pub commit_alone : {D : Type 0} (rig : Ghosts D) (old mid new : D) → Throughout rig old mid (BeforeOrHolds r all) → Throughout rig mid new (WaitsNow r all) → Throughout rig old new (AloneOr view (applied r all.image.seen))
-  commit_alone rig old mid new first second = joined rig (weaker rig switch_alone first) (weaker rig apply_alone second)
+  pub commit_keeps : {D : Type 0} (rig : Ghosts D) (old mid new : D) → Throughout rig old mid (BeforeOrHolds r all) → Throughout rig mid new (StandsStill (exactly (applied r all.image.seen)) all.said) → Throughout rig mid new (WaitsNow r all)
+      → Throughout rig old new (KeepsOrNew view (applied r all.image.seen) all.said)
+  commit_keeps rig old mid new first second third = joined rig (weaker rig switch_keeps first) (weaker rig apply_keeps (both rig second third))
 
 long_by : (reading : Reading) (image bytes : List ℕ) → IsOfSlot reading → StandsFor reading image bytes → 112 ≤ length bytes
 long_by Void image bytes is s = absurd is

@@ -11,7 +11,7 @@ ghost use Rattle.czi_journal.specs.Journals.{other, slot_of, CountsWith, SaysAsB
 ghost use Rattle.czi_vault.specs.Recovered.{applied, View, Recovered, StandsNow, StandsOr};
 ghost use Rattle.czi_vault.specs.Devices.{vault_device};
 ghost use Rattle.czi_vault.specs.Puts.{ranges};
-ghost use Rattle.czi_vault.specs.Alone.{Alone, AloneNow, HasBytesBut100};
+ghost use Rattle.czi_vault.specs.Alone.{AloneNow, HasBytesBut100, KeepsOr};
 
 use crate::recover;
 use czi_journal::{Journal, flip, stage};
@@ -74,9 +74,9 @@ pub fn commit<R: Rig>(
     // At every moment the files stand for what they stood for, or for the new image.
     ensures moments { ForSome (devices (R.state rig.old)) (λ all. (view : View) → StandsNow view all
         → Throughout R.Rig rig.old rig.new (λ image j said. StandsOr view (applied (record_of head.now links.now.links) all.image.seen) image j × (said ≡ all.said))) }
-    // Each image read alone is pending, or has the old bytes, or is the new one.
+    // Each image read alone is pending or has the old bytes; or it is the new one, and then the files stand for it.
     ensures alone { ForSome (devices (R.state rig.old)) (λ all. (view : View) → StandsNow view all → AloneNow view all → HasBytesBut100 view all.image.seen → (Covers (ranges links.now.links) 100 → ⊥)
-        → Throughout R.Rig rig.old rig.new (λ image j said. Alone view image ⊎ (image ≡ applied (record_of head.now links.now.links) all.image.seen))) }
+        → Throughout R.Rig rig.old rig.new (λ image j said. KeepsOr view (applied (record_of head.now links.now.links) all.image.seen) image j × (said ≡ all.said))) }
     // From then on for the new image, which is all on the disk.
     ensures committed { OnOk result (ForSome (devices (R.state rig.old)) (λ all. ForSome (devices (R.state rig.new)) (λ now.
         (image j said : List ℕ) → LeavesNow now image j said → Recovered image j (applied (record_of head.now links.now.links) all.image.seen)))) }

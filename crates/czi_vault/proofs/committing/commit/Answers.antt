@@ -5,7 +5,7 @@ use Rattle.czi_rig.proofs.Runs.{weaker}
 use Rattle.czi_links.specs.Record.{record_of}
 use Rattle.czi_vault.specs.Recovered.{applied}
 use Rattle.czi_vault.proofs.Commits.{meets_of, exactly, while_switched, new_stands, commit_moments, commit_done}
-use Rattle.czi_vault.proofs.Pending.{switch_alone, commit_alone}
+use Rattle.czi_vault.proofs.Pending.{switch_keeps, commit_keeps}
 use Rattle.czi_vault.proofs.committing.commit.Goals as goal
 
 pub returns-in-Err-clause-moments : goal.returns-in-Err-clause-moments
@@ -67,10 +67,12 @@ returns-in-Err-clause-alone g c = λ all is view stands alone has off.
     let r = record_of c.args.head.now c.args.links.now.links in
     let here_i = known_file s Image all is in
     let here_j = known_file s Journal all is in
+    let seen_is = known_seen s Image all is in
+    let meets = meets_of all r (c.requires.synced all.image here_i) (c.requires.in_file all.image.seen seen_is) (c.requires.guid all.image.seen seen_is) in
     let counts = (c.requires.counts all.journal here_j).read.counts in
     let reads_i = g.met.R.Rig.reads_now first Image all.image here_i in
     let reads_j = g.met.R.Rig.reads_now first Journal all.journal here_j in
-    weaker rig (switch_alone all r view stands alone has counts reads_i reads_j) (c.switch.ensures.moments all is r c.encode.ensures.read_again)
+    weaker rig (switch_keeps all r view stands alone has counts reads_i reads_j meets) (c.switch.ensures.moments all is r c.encode.ensures.read_again)
 
 pub returns-in-Ok-recover-clause-alone : goal.returns-in-Ok-recover-clause-alone
 returns-in-Ok-recover-clause-alone g c = λ all is view stands alone has off.
@@ -80,12 +82,16 @@ returns-in-Ok-recover-clause-alone g c = λ all is view stands alone has off.
     let r = record_of c.args.head.now c.args.links.now.links in
     let here_i = known_file s Image all is in
     let here_j = known_file s Journal all is in
+    let seen_is = known_seen s Image all is in
+    let meets = meets_of all r (c.requires.synced all.image here_i) (c.requires.in_file all.image.seen seen_is) (c.requires.guid all.image.seen seen_is) in
     let counts = (c.requires.counts all.journal here_j).read.counts in
     let reads_i = g.met.R.Rig.reads_now first Image all.image here_i in
     let reads_j = g.met.R.Rig.reads_now first Journal all.journal here_j in
     let mid = c.switch.new.rig in
     let still = still_known s (rig.state mid) Journal all is c.switch.ensures.other c.switch.ensures.goes_on in
-    commit_alone all r view stands alone has counts reads_i reads_j rig first mid c.recover.new.rig (c.switch.ensures.moments all is r c.encode.ensures.read_again)
+    let slots = c.in-Ok.ensures.switched r c.encode.ensures.read_again still.disk (known_file (rig.state mid) Journal _ still.known) in
+    commit_keeps all r view stands alone has counts reads_i reads_j meets rig first mid c.recover.new.rig (c.switch.ensures.moments all is r c.encode.ensures.read_again)
+    (c.recover.ensures.moments _ still.known (exactly (applied r all.image.seen)) (new_stands all r meets still.disk slots) slots.left)
     (c.recover.ensures.alone _ still.known (c.requires.synced all.image here_i) off)
 
 pub returns-in-Err-recover-clause-alone : goal.returns-in-Err-recover-clause-alone
@@ -96,10 +102,14 @@ returns-in-Err-recover-clause-alone g c = λ all is view stands alone has off.
     let r = record_of c.args.head.now c.args.links.now.links in
     let here_i = known_file s Image all is in
     let here_j = known_file s Journal all is in
+    let seen_is = known_seen s Image all is in
+    let meets = meets_of all r (c.requires.synced all.image here_i) (c.requires.in_file all.image.seen seen_is) (c.requires.guid all.image.seen seen_is) in
     let counts = (c.requires.counts all.journal here_j).read.counts in
     let reads_i = g.met.R.Rig.reads_now first Image all.image here_i in
     let reads_j = g.met.R.Rig.reads_now first Journal all.journal here_j in
     let mid = c.switch.new.rig in
     let still = still_known s (rig.state mid) Journal all is c.switch.ensures.other c.switch.ensures.goes_on in
-    commit_alone all r view stands alone has counts reads_i reads_j rig first mid c.recover.new.rig (c.switch.ensures.moments all is r c.encode.ensures.read_again)
+    let slots = c.in-Ok.ensures.switched r c.encode.ensures.read_again still.disk (known_file (rig.state mid) Journal _ still.known) in
+    commit_keeps all r view stands alone has counts reads_i reads_j meets rig first mid c.recover.new.rig (c.switch.ensures.moments all is r c.encode.ensures.read_again)
+    (c.recover.ensures.moments _ still.known (exactly (applied r all.image.seen)) (new_stands all r meets still.disk slots) slots.left)
     (c.recover.ensures.alone _ still.known (c.requires.synced all.image here_i) off)
