@@ -10,5 +10,5 @@ pub mod Marks
 pub mod Indexed
 pub mod Placed
 pub mod Settled
-pub mod Without
-pub mod AtEnd
+pub mod Changed
+pub mod Acting

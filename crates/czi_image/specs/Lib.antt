@@ -11,4 +11,5 @@ pub mod Props
 pub mod Marked
 pub mod Holds
 pub mod WalkFaults
-pub mod Removed
+pub mod Change
+pub mod Applied

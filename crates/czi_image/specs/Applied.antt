@@ -1,0 +1,131 @@
+-- An index after a change, and what it says of an image.
+use Rattle.std.specs.Prelude.{◌≡◌, ℕ, ◌+◌, ◌≤◌, ◌^◌, pos, List, map, length, Bool, ◌&&◌, ◌==◌, nat_lt, ℤ, Option, Some, None, if◌then◌else◌, vec_len, vec_capacity}
+use Rattle.std.specs.List.{AllByRecursion}
+use Rattle.czi_format.specs.Layout.{Layout, Place}
+use Rattle.czi_format.specs.Live.{Live}
+use Rattle.czi_format.specs.Span.{Span, AreDisjoint, end_of, round32}
+use Rattle.czi_machine.specs.Change.{changed, mapped, mapped_setting, set}
+use Rattle.czi_machine.specs.Places.{walk_goes_on}
+use Rattle.czi_machine.specs.Turn.{turned, pointer}
+use Rattle.czi_num.specs.Span.{span_of}
+use Rattle.czi_num.specs.declared.span.Span.{Span as CodeSpan}
+use Rattle.czi_image.specs.Change.{AreWithin, acts_of, setting_of, turn_of}
+use Rattle.czi_image.specs.Holds.{Holds, LiesAs, directory_place, tile_place, att_item_place, meta_item_place}
+use Rattle.czi_image.specs.Spans.{AreFree, live_spans}
+use Rattle.czi_image.specs.View.{meta_item_of}
+use Rattle.czi_image.specs.declared.change.Change.{Change}
+use Rattle.czi_image.specs.declared.change.DirectoryChange.{DirectoryChange}
+use Rattle.czi_image.specs.declared.change.DirectoryChange.TheVariants.{Kept, Patched, New}
+use Rattle.czi_image.specs.declared.index.Index.{Index}
+use Rattle.czi_image.specs.declared.types.DirItem.{DirItem}
+use Rattle.czi_image.specs.declared.types.MetaItem.{MetaItem}
+
+-- the directory, and its pointer, after a change
+abbrev pub directory_after : DirectoryChange → Option DirItem → Option DirItem
+directory_after Kept old = old
+directory_after Patched old = old
+directory_after (New d) old = Some d
+
+abbrev pub own_position : Option DirItem → ℤ → ℤ
+own_position None old = old
+own_position (Some d) old = pos d.span.at
+
+abbrev pub pointer_after : DirectoryChange → Option DirItem → ℤ → ℤ
+pointer_after Kept was old = old
+pointer_after Patched was old = own_position was old
+pointer_after (New d) was old = pos d.span.at
+
+-- the live extents after a change
+abbrev pub live_after : Change → Index → List Span
+live_after c x = live_spans x.header (directory_after c.directory x.directory) (changed (acts_of c.tiles.items) x.tiles.items) (directory_after c.attdir x.attdir) (changed (acts_of c.attachments.items) x.attachments.items) (set (setting_of c.metadata) x.metadata)
+
+-- behind the length the walk goes on only where its end and the length are one place, each rounded up to 32
+abbrev pub walks_on : Index → Bool
+walks_on x = round32 x.walk_end == round32 x.length
+
+abbrev pub walk_end_after : Index → ℕ → ℕ
+walk_end_after x n = if walks_on x && nat_lt x.length n then n else x.walk_end
+
+-- The change comes to places that there are. What is then live lies within the length, no two of it meet, and none of it
+-- meets an extent; the lists are within their limits.
+pub record CanChange (c : Change) (extents : List Span) (n : ℕ) (x : Index) : Type 0 where
+  pub tiles : AreWithin c.tiles.items (length x.tiles.items)
+  pub attachments : AreWithin c.attachments.items (length x.attachments.items)
+  pub few_tiles : length (changed (acts_of c.tiles.items) x.tiles.items) ≤ 2 ^ 20
+  pub few_attachments : length (changed (acts_of c.attachments.items) x.attachments.items) ≤ 2 ^ 12
+  pub longer : x.length ≤ n
+  pub small : n ≤ 2 ^ 62
+  pub inside : AllByRecursion (λ s. end_of s ≤ n) (live_after c x)
+  pub disjoint : AreDisjoint (live_after c x)
+  pub free : AreFree n (live_after c x) extents
+
+-- there is room for as many more items as there are acts, and for so many extents
+pub record HasRoom (c : Change) (count : ℕ) (x : Index) : Type 0 where
+  pub tiles : vec_len x.tiles + length c.tiles.items ≤ vec_capacity x.tiles
+  pub attachments : vec_len x.attachments + length c.attachments.items ≤ vec_capacity x.attachments
+  pub extents : count ≤ vec_capacity x.extents
+
+-- The new index is the old one after a change, with these free extents and this length.
+pub record IsChanged (c : Change) (free : List CodeSpan) (n : ℕ) (old new : Index) : Type 0 where
+  pub header : new.header ≡ record old.header {
+    directory = pointer_after c.directory old.directory old.header.directory;
+    metadata = pointer (λ (m : MetaItem). (meta_item_of m).segment) (setting_of c.metadata) old.header.metadata;
+    attachments = pointer_after c.attdir old.attdir old.header.attachments;
+  }
+  pub length : new.length ≡ n
+  pub directory : new.directory ≡ directory_after c.directory old.directory
+  pub tiles : new.tiles.items ≡ changed (acts_of c.tiles.items) old.tiles.items
+  pub attdir : new.attdir ≡ directory_after c.attdir old.attdir
+  pub attachments : new.attachments.items ≡ changed (acts_of c.attachments.items) old.attachments.items
+  pub metadata : new.metadata ≡ set (setting_of c.metadata) old.metadata
+  pub extents : new.extents.items ≡ free
+  pub unknown : new.unknown ≡ old.unknown
+  pub walk_end : new.walk_end ≡ walk_end_after old n
+
+-- The new index is the old one; only how much memory its lists have may differ.
+pub record IsSame (old new : Index) : Type 0 where
+  pub header : new.header ≡ old.header
+  pub length : new.length ≡ old.length
+  pub directory : new.directory ≡ old.directory
+  pub tiles : new.tiles.items ≡ old.tiles.items
+  pub attdir : new.attdir ≡ old.attdir
+  pub attachments : new.attachments.items ≡ old.attachments.items
+  pub metadata : new.metadata ≡ old.metadata
+  pub extents : new.extents.items ≡ old.extents.items
+  pub unknown : new.unknown ≡ old.unknown
+  pub walk_end : new.walk_end ≡ old.walk_end
+
+-- where everything lies after a change
+abbrev pub place_after : DirectoryChange → Option Place → Option Place
+place_after Kept old = old
+place_after Patched old = old
+place_after (New d) old = Some (directory_place d)
+
+abbrev pub layout_after : Change → List Span → ℕ → Layout → Layout
+layout_after c deleted n l = record {
+  length = n;
+  header = l.header;
+  directory = place_after c.directory l.directory;
+  attdir = place_after c.attdir l.attdir;
+  metadata = set (mapped_setting meta_item_place (setting_of c.metadata)) l.metadata;
+  subblocks = changed (mapped tile_place (acts_of c.tiles.items)) l.subblocks;
+  attachments = changed (mapped att_item_place (acts_of c.attachments.items)) l.attachments;
+  walk_end = if walk_goes_on l && nat_lt l.length n then n else l.walk_end;
+  deleted = deleted;
+  unknown = l.unknown;
+}
+
+-- a changed index holds what the change makes of what is live
+abbrev pub HoldsChanged : Type 0
+HoldsChanged = (c : Change) (free : List CodeSpan) (n : ℕ) (old new : Index) (live : Live) → IsChanged c free n old new → Holds live old → Holds (turned (turn_of c old) live) new
+
+-- and it has the layout afterwards
+abbrev pub LiesChanged : Type 0
+LiesChanged = (c : Change) (free : List CodeSpan) (n : ℕ) (old new : Index) (l : Layout) → IsChanged c free n old new → LiesAs l old → LiesAs (layout_after c (map span_of free) n l) new
+
+-- an index that is the same holds and has the same
+abbrev pub HoldsStill : Type 0
+HoldsStill = (old new : Index) (live : Live) → IsSame old new → Holds live old → Holds live new
+
+abbrev pub LiesStill : Type 0
+LiesStill = (old new : Index) (l : Layout) → IsSame old new → LiesAs l old → LiesAs l new
