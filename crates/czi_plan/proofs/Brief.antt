@@ -1,28 +1,20 @@
--- Few extents are new after an edit, so the links of a removal are few.
-use Rattle.std.proofs.Common.{◌≡◌, ℕ, ◌+◌, ◌-◌, ◌*◌, ◌≤◌, List, [], ◌∷◌, ◌++◌, map, filter, length, Bool, true, false, cond, not, ◌==◌, nat_lt, Option, Some, None, option_map, option_to_list, refl, ap, arith, inl, inr, length-append}
+-- Few extents are new after an edit, so its links are few.
+use Rattle.std.proofs.Common.{◌≡◌, ℕ, ◌+◌, ◌-◌, ◌*◌, ◌≤◌, List, [], ◌∷◌, ◌++◌, filter, length, Bool, true, false, cond, not, ◌==◌, nat_lt, refl, ap, arith, inl, inr}
 use Rattle.std.specs.List.{AllByRecursion, flat_map, list_any}
 use Rattle.std.proofs.lemmas.Bool.{cases_Bool}
 use Rattle.std.proofs.lemmas.List.{length-map}
-use Rattle.std.proofs.lemmas.List.Sorted.{length_permutation}
 use Rattle.czi_format.specs.Layout.{Place}
 use Rattle.czi_format.specs.Span.{Span, end_of, meets, span_le, inserted, sorted}
 use Rattle.czi_format.specs.Space.{from_to, left_of, together, without, with_next, with_freed, with_all_freed, deleted_after, same_span}
-use Rattle.czi_image.specs.Holds.{directory_place}
-use Rattle.czi_image.specs.declared.types.DirItem.{DirItem}
-use Rattle.czi_links.specs.Record.{encoded_len, spell_link}
-use Rattle.czi_links.proofs.Again.{length-spell_link}
 use Rattle.czi_machine.specs.State.{spans_of}
 use Rattle.czi_machine.proofs.Leaving.{among_themselves}
-use Rattle.czi_machine.proofs.NewSegment.{header_length}
-use Rattle.czi_num.specs.Span.{span_of}
-use Rattle.czi_num.specs.declared.span.Span.{Span as CodeSpan}
-use Rattle.czi_seg.specs.View.{header_of}
 use Rattle.czi_space.specs.State.{AreExtents, LiesInOne}
 use Rattle.czi_space.proofs.Taken.{left_apart, miss, all_apart, without_extents}
 use Rattle.czi_plan.specs.Geometry.{AreUsed}
-use Rattle.czi_plan.specs.Steps.{Head, IsHead, AreHeads, deleted_head, head_link, pointer_link, is_new}
-use Rattle.czi_plan.proofs.Extents.{untouched}
-use Rattle.czi_plan.proofs.Lists.{all_weaken}
+use Rattle.czi_plan.specs.Marks.{is_new}
+use Rattle.czi_plan.proofs.Order.{untouched}
+use Rattle.czi_machine.proofs.Tiled.{All-weaken}
+use Rattle.std.proofs.lemmas.List.Sums.{length-filter, count_by-le-length}
 
 -- how many of some spans pass a test
 abbrev pub times : (Span → Bool) → List Span → ℕ
@@ -62,7 +54,7 @@ length-inserted : (s : Span) (xs : List Span) → length (inserted span_le s xs)
 length-inserted s [] = omega arith
 length-inserted s (x ∷ xs) = elim (cases_Bool (span_le s x)) [ inl e ↦ rw e (omega arith) | inr e ↦ rw e (omega (arith, length-inserted s xs)) ]
 
-length-sorted : (xs : List Span) → length (sorted span_le xs) ≡ length xs
+pub length-sorted : (xs : List Span) → length (sorted span_le xs) ≡ length xs
 length-sorted [] = refl
 length-sorted (x ∷ xs) = omega (arith, length-inserted x (sorted span_le xs), length-sorted xs)
 
@@ -101,55 +93,24 @@ times-none : (q : Span → Bool) (xs : List Span) → AllByRecursion (λ s. q s 
 times-none q [] all = refl
 times-none q (x ∷ xs) all = let none : q x ≡ false = all.0 in rw none (omega (arith, times-none q xs all.1))
 
--- what isn't one of the extents
-abbrev pub other_than : List Span → Span → Bool
-other_than before s = not (list_any (same_span s) before)
+counted : (q : Span → Bool) (xs : List Span) → length (filter q xs) ≡ times q xs
+counted q [] = refl
+counted q (x ∷ xs) = elim (cases_Bool (q x)) [ inl e ↦ rw e (omega (arith, counted q xs)) | inr e ↦ rw e (omega (arith, counted q xs)) ]
 
 -- few of the extents after an edit weren't there before it
-pub few_new : (n : ℕ) (used freed before : List Span) → AreExtents 0 n before → AreUsed n used before → times (other_than before) (deleted_after used freed before) ≤ 2 * length used + length freed
-few_new n used freed before rise all =
-    let none : times (other_than before) before ≡ 0 = times-none (other_than before) before (all_weaken (λ s. list_any (same_span s) before ≡ true) (λ s. other_than before s ≡ false) (λ s e. ap not e) before (among_themselves before)) in
-    omega (arith, times-with_all_freed (other_than before) (sorted span_le freed) (without used before), length-sorted freed, times-without (other_than before) n used before rise all, none)
+pub few_marks : (n : ℕ) (used freed before : List Span) → AreExtents 0 n before → AreUsed n used before → length (filter (is_new before) (deleted_after used freed before)) ≤ 2 * length used + length freed
+few_marks n used freed before rise all =
+    let none : times (is_new before) before ≡ 0 = times-none (is_new before) before (All-weaken (λ s. list_any (same_span s) before ≡ true) (λ s. is_new before s ≡ false) (λ s e. ap not e) before (among_themselves before)) in
+    omega (arith, counted (is_new before) (deleted_after used freed before), times-with_all_freed (is_new before) (sorted span_le freed) (without used before), length-sorted freed, times-without (is_new before) n used before rise all, none)
 
-counted : (q : Span → Bool) (xs : List CodeSpan) → length (filter (λ (s : CodeSpan). q (span_of s)) xs) ≡ times q (map span_of xs)
-counted q [] = refl
-counted q (x ∷ xs) = elim (cases_Bool (q (span_of x))) [ inl e ↦ rw e (omega (arith, counted q xs)) | inr e ↦ rw e (omega (arith, counted q xs)) ]
-
--- the headers of a plan of one new segment
-pub few_heads : (n : ℕ) (used freed before : List Span) (h : Head) (dead : List CodeSpan) (hs : List Head) → AreExtents 0 n before → AreUsed n used before → AreHeads before used freed (h ∷ []) dead hs
-    → length hs ≤ 1 + (2 * length used + length freed + length dead)
-few_heads n used freed before h dead hs rise all are =
-    let new : List CodeSpan = filter (is_new before) are.after in
-    let moved : length hs ≡ length (h ∷ map deleted_head (filter (is_new before) are.after ++ dead)) = length_permutation (h ∷ map deleted_head (filter (is_new before) are.after ++ dead)) hs are.moved in
-    omega (
-      arith,
-      moved,
-      length-map (filter (is_new before) are.after ++ dead) deleted_head,
-      length-append (filter (is_new before) are.after) dead,
-      counted (other_than before) are.after,
-      ap (times (other_than before)) are.is_after,
-      few_new n used freed before rise all,
-    )
-
-links_len : (hs : List Head) → AllByRecursion IsHead hs → length (flat_map spell_link (map head_link hs)) ≡ 44 * length hs
-links_len [] all = refl
-links_len (h ∷ hs) all =
-    let size : length (spell_link (head_link h)) ≡ 44 = omega (arith, length-spell_link (head_link h), header_length (header_of h.0.at h.1) all.0.id) in
-    omega (arith, length-append (spell_link (head_link h)) (flat_map spell_link (map head_link hs)), size, links_len hs all.1)
-
--- the pointer and some headers, as a record
-pub links_brief : (at : ℕ) (hs : List Head) → AllByRecursion IsHead hs → encoded_len (pointer_link at ∷ map head_link hs) ≡ 52 + 44 * length hs
-links_brief at hs all =
-    let size : length (spell_link (pointer_link at)) ≡ 20 = omega (arith, length-spell_link (pointer_link at)) in
-    omega (arith, length-append (spell_link (pointer_link at)) (flat_map spell_link (map head_link hs)), size, links_len hs all)
-
-fewer : (q : Place → Bool) (G : List Place) → length (filter q G) ≤ length G
-fewer q [] = omega arith
-fewer q (g ∷ G) = elim (cases_Bool (q g)) [ inl e ↦ rw e (omega (arith, fewer q G)) | inr e ↦ rw e (omega (arith, fewer q G)) ]
+-- all extents
+pub few_extents : (n : ℕ) (used freed before : List Span) → AreExtents 0 n before → AreUsed n used before → length (deleted_after used freed before) ≤ length before + (2 * length used + length freed)
+few_extents n used freed before rise all =
+    omega (arith, every (deleted_after used freed before), every before, times-with_all_freed (λ s. true) (sorted span_le freed) (without used before), length-sorted freed, times-without (λ s. true) n used before rise all)
+  where
+    every : (xs : List Span) → times (λ s. true) xs ≡ length xs
+    every [] = refl
+    every (x ∷ xs) = omega (arith, every xs)
 
 pub spans_fewer : (q : Place → Bool) (G : List Place) → length (spans_of (filter q G)) ≤ length G
-spans_fewer q G = omega (arith, length-map (filter q G) (λ (p : Place). p.span), fewer q G)
-
-pub one_directory : (o : Option DirItem) → length (option_to_list (option_map directory_place o)) ≤ 1
-one_directory None = omega arith
-one_directory (Some d) = omega arith
+spans_fewer q G = omega (arith, length-map (filter q G) (λ (p : Place). p.span), length-filter q G, count_by-le-length q G)

@@ -1,16 +1,78 @@
--- Entries that are written one behind another.
-use Rattle.std.proofs.Common.{◌≡◌, ℕ, ◌+◌, ◌-◌, ◌<◌, ◌≤◌, pos, List, [], ◌∷◌, ◌++◌, map, take, drop, get_or, length, sum, replicate, ap, sym, ◌∙◌, subst, arith, append-nil, length-append}
+-- Steps of loops over lists, and entries that are written one behind another.
+use Rattle.std.proofs.Common.{◌≡◌, ℕ, ◌+◌, List, [], ◌∷◌, ◌++◌, map, take, drop, length, sum, refl, ap, ◌∙◌, arith, length-append, append_assoc, zero, suc, ◌<◌, get_or, sym, subst, ◌-◌, ◌≤◌, pos, replicate, append-nil}
+use Rattle.std.proofs.Math.Seq.{drop-append_seam, drop-cons, take-suc, take-append_seam}
+use Rattle.std.proofs.lemmas.List.{length-map, take_all, drop-drop, drop-replicate, length-replicate, length-take-le, map-append, drop_all}
 use Rattle.std.specs.List.{AllByRecursion, flat_map}
-use Rattle.std.proofs.Math.Seq.{take-append_seam, drop-append_seam}
+use Rattle.std.proofs.Math.Numerals.{add-one}
 use Rattle.std.proofs.lemmas.List.Sums.{sum_by-append, sum_by-cons}
-use Rattle.std.proofs.lemmas.List.{drop-drop, drop-replicate, length-replicate, length-take-le}
-use Rattle.czi_format.specs.Bytes.{i32_bytes, put_at}
-use Rattle.czi_format.specs.Contents.{directory_head}
-use Rattle.czi_format.specs.Entry.{Entry, IsEntry, entry_len, entry_bytes}
+use Rattle.std.proofs.lemmas.List.Concat.{flat_map-append}
+use Rattle.czi_format.specs.Entry.{Entry, entry_len, IsEntry, entry_bytes}
+use Rattle.czi_format.specs.Segment.{directory_id}
 use Rattle.czi_image.specs.View.{tile_of}
 use Rattle.czi_image.specs.declared.types.Tile.{Tile}
-use Rattle.czi_plan.specs.Directory.{entries_of, directory_size, data_in}
-use Rattle.czi_plan.proofs.Lists.{drop_here, take_here, assoc, map_append, flat_append, drop_end, all_append}
+use Rattle.czi_links.specs.Record.{Bytes}
+use Rattle.czi_region.specs.Pieces.{bytes_of, bytes_put, IsPiece}
+use Rattle.czi_region.specs.declared.block.Piece.{Piece as Range}
+use Rattle.czi_region.specs.declared.block.Region.{Region}
+use Rattle.czi_machine.proofs.Tiled.{All-both}
+use Rattle.czi_format.specs.Bytes.{i32_bytes, put_at}
+use Rattle.czi_format.specs.Contents.{directory_head}
+use Rattle.czi_plan.specs.Directory.{directory_size, entries_of, data_in}
+use Rattle.czi_plan.specs.Marks.{head_mark, patch_marks, pointer_mark}
+
+pub size_of_both : (es fs : List Entry) → directory_size (es ++ fs) ≡ 128 + sum (map entry_len es) + sum (map entry_len fs)
+size_of_both es fs =
+    let both : sum (map entry_len (es ++ fs)) ≡ sum (map entry_len es) + sum (map entry_len fs) = ap sum (map-append entry_len es fs) ∙ sum_by-append (λ n. n) (map entry_len es) (map entry_len fs) in
+    omega (arith, both)
+
+pub length-directory : length directory_id ≡ 16
+unfolding directory_id
+length-directory = refl
+
+pub entries_length : (tiles : List Tile) → length (entries_of tiles) ≡ length tiles
+entries_length tiles = length-map tiles (λ (t : Tile). (tile_of t).entry)
+
+-- the numbers of a patch
+pub patch_as : (old new : List Bytes) (at u u' n n' f f' : ℕ) (b b' : List ℕ) → new ≡ old ++ patch_marks at u n f b → u ≡ u' → n ≡ n' → f ≡ f' → b ≡ b' → new ≡ old ++ patch_marks at u' n' f' b'
+patch_as old new at u u' n n' f f' b b' e p q r s = e ∙ (λ i. old ++ patch_marks at (p i) (q i) (r i) (s i))
+
+pub patch_size : (es fs : List Entry) (n m : ℕ) → n ≡ 128 + sum (map entry_len es) → m ≡ sum (map entry_len fs) → n + m ≡ directory_size (es ++ fs)
+patch_size es fs n m a b = omega (arith, size_of_both es fs, a, b)
+
+pub both_length : (xs ys : List Tile) → length xs + length ys ≡ length (entries_of xs ++ entries_of ys)
+both_length xs ys = omega (arith, length-append (entries_of xs) (entries_of ys), entries_length xs, entries_length ys)
+
+-- the piece that was put last
+pub last_piece : (old : List ℕ) (region : Region) (piece : Range) (data' : List ℕ) → bytes_put region ≡ old ++ data' → piece.at ≡ length old → piece.len ≡ length data' → bytes_of region piece ≡ data'
+last_piece old region piece data' put front whole =
+    ap (λ l. take piece.len (drop piece.at l)) put ∙ (ap (λ k. take piece.len (drop k (old ++ data'))) front ∙ (ap (take piece.len) (drop-append_seam old data') ∙ take_all piece.len data' (omega (arith, whole))))
+
+pub is_piece : (old : List ℕ) (region : Region) (piece : Range) (data' : List ℕ) → bytes_put region ≡ old ++ data' → piece.at ≡ length old → piece.len ≡ length data' → IsPiece region piece
+is_piece old region piece data' put front whole = omega (arith, ap length put, length-append old data', front, whole)
+
+-- the pointer and the header
+pub two_marks : (old one two : List Bytes) (at allocated used used' : ℕ) → one ≡ old ++ pointer_mark 84 at ∷ [] → two ≡ one ++ head_mark (record { at = at; id = directory_id; allocated = allocated; used = used }) ∷ [] → used ≡ used'
+    → two ≡ old ++ pointer_mark 84 at ∷ head_mark (record { at = at; id = directory_id; allocated = allocated; used = used' }) ∷ []
+two_marks old one two at allocated used used' a b same =
+    b ∙ (ap (λ l. l ++ head_mark (record { at = at; id = directory_id; allocated = allocated; used = used }) ∷ []) a
+    ∙ (append_assoc old (pointer_mark 84 at ∷ []) (head_mark (record { at = at; id = directory_id; allocated = allocated; used = used }) ∷ [])
+    ∙ ap (λ n. old ++ pointer_mark 84 at ∷ head_mark (record { at = at; id = directory_id; allocated = allocated; used = n }) ∷ []) same))
+
+-- the list from an element on, and up to it
+pub drop_here : {X : Type 0} (xs : List X) (i : ℕ) (x : X) → i < length xs → x ≡ get_or xs i x → drop i xs ≡ x ∷ drop (i + 1) xs
+drop_here xs i x h e = drop-cons xs i x h ∙ (ap (λ z. z ∷ drop (suc i) xs) (sym e) ∙ ap (λ n. x ∷ drop n xs) (sym (add-one i)))
+
+pub take_here : {X : Type 0} (xs : List X) (i : ℕ) (x : X) → i < length xs → x ≡ get_or xs i x → take (i + 1) xs ≡ take i xs ++ x ∷ []
+take_here xs i x h e = ap (λ n. take n xs) (add-one i) ∙ (take-suc xs i x h ∙ ap (λ z. take i xs ++ z ∷ []) (sym e))
+
+-- what holds of each image holds of the one of an element
+pub all_at : {X Y : Type 0} (f : X → Y) (P : Y → Type 0) (xs : List X) (i : ℕ) (x : X) → AllByRecursion P (map f xs) → i < length xs → P (f (get_or xs i x))
+all_at f P [] i x a h = absurd (omega arith)
+all_at f P (y ∷ ys) zero x a h = a.0
+all_at f P (y ∷ ys) (suc i) x a h = all_at f P ys i x a.1 (omega arith)
+
+pub all_more : {X : Type 0} (P : X → Type 0) (xs : List X) (i : ℕ) (d : X) → i < length xs → AllByRecursion P (take i xs) → P (get_or xs i d) → AllByRecursion P (take (i + 1) xs)
+all_more P xs i d h all one = subst (λ n. AllByRecursion P (take n xs)) (sym (add-one i)) (subst (AllByRecursion P) (sym (take-suc xs i d h)) (All-both P (take i xs) (get_or xs i d ∷ []) all (one, tt)))
 
 pub entries_here : (tiles : List Tile) (i : ℕ) (t : Tile) → i < length tiles → t ≡ get_or tiles i t → entries_of (drop i tiles) ≡ entries_of (t ∷ drop (i + 1) tiles)
 entries_here tiles i t h e = ap entries_of (drop_here tiles i t h e)
@@ -24,7 +86,7 @@ pub bytes_here : (tiles : List Tile) (i : ℕ) (t : Tile) → i < length tiles �
     → flat_map entry_bytes (entries_of (take (i + 1) tiles)) ≡ flat_map entry_bytes (entries_of (take i tiles)) ++ flat_map entry_bytes (entries_of (t ∷ []))
 bytes_here tiles i t h e =
     ap (λ l. flat_map entry_bytes (entries_of l)) (take_here tiles i t h e)
-    ∙ (ap (flat_map entry_bytes) (map_append _ (take i tiles) (t ∷ [])) ∙ flat_append entry_bytes (entries_of (take i tiles)) (entries_of (t ∷ [])))
+    ∙ (ap (flat_map entry_bytes) (map-append _ (take i tiles) (t ∷ [])) ∙ flat_map-append entry_bytes (entries_of (take i tiles)) (entries_of (t ∷ [])))
 
 behind : (n m : ℕ) (xs : List ℕ) → drop m (drop n xs) ≡ drop (n + m) xs
 behind n m xs = drop-drop m n xs
@@ -35,7 +97,7 @@ next_bytes front old out new end k long is =
     let low : take end out ≡ front = ap (λ l. take end l) is ∙ (ap (λ n. take n (front ++ drop end old)) (sym long) ∙ take-append_seam front (drop end old)) in
     let at_end : drop end out ≡ drop end old = ap (λ l. drop end l) is ∙ (ap (λ n. drop n (front ++ drop end old)) (sym long) ∙ drop-append_seam front (drop end old)) in
     let high : drop (end + k) out ≡ drop (end + k) old = sym (behind end k out) ∙ (ap (drop k) at_end ∙ behind end k old) in
-    ap (λ l. l ++ (new ++ drop (end + k) out)) low ∙ (ap (λ l. front ++ (new ++ l)) high ∙ sym (assoc front new (drop (end + k) old)))
+    ap (λ l. l ++ (new ++ drop (end + k) out)) low ∙ (ap (λ l. front ++ (new ++ l)) high ∙ sym (append_assoc front new (drop (end + k) old)))
 
 -- one more entry was written
 pub entry_next : (tiles : List Tile) (i : ℕ) (t : Tile) (at end k : ℕ) (old out new : List ℕ) → i < length tiles → t ≡ get_or tiles i t → at ≤ length old
@@ -49,8 +111,8 @@ entry_next tiles i t at end k old out new h e low seam is own size =
     let one : flat_map entry_bytes (entries_of (t ∷ [])) ≡ new = append-nil (entry_bytes (tile_of t).entry) ∙ sym own in
     let more : flat_map entry_bytes (entries_of (take (i + 1) tiles)) ≡ done ++ new = bytes_here tiles i t h e ∙ ap (λ l. done ++ l) one in (
       omega (arith, ap length more, length-append done new, seam, size),
-      next_bytes (take at old ++ done) old out new end k front (is ∙ sym (assoc (take at old) done (drop end old)))
-          ∙ (ap (λ l. l ++ drop (end + k) old) (assoc (take at old) done new ∙ ap (λ l. take at old ++ l) (sym more)) ∙ assoc (take at old) (flat_map entry_bytes (entries_of (take (i + 1) tiles))) (drop (end + k) old)),
+      next_bytes (take at old ++ done) old out new end k front (is ∙ sym (append_assoc (take at old) done (drop end old)))
+          ∙ (ap (λ l. l ++ drop (end + k) old) (append_assoc (take at old) done new ∙ ap (λ l. take at old ++ l) (sym more)) ∙ append_assoc (take at old) (flat_map entry_bytes (entries_of (take (i + 1) tiles))) (drop (end + k) old)),
     )
 
 -- the head and the entries, over zeros
@@ -68,30 +130,25 @@ filled n zeros head b1 o1 o2 es fs s1 s2 zeros_is head_is long b1_is o1_is o2_is
     let size : directory_size (es ++ fs) ≡ 128 + s1 + s2 = omega (arith, sum_both es fs, sum1, sum2) in
     let count : length (es ++ fs) ≡ length es + length fs = length-append es fs in
     third ∙ (ap (λ l. ((head ++ F) ++ G) ++ l) (rest ∙ ap (λ k. replicate (n - k) 0) (sym size))
-    ∙ (assoc (head ++ F) G _ ∙ (assoc head F _ ∙ (ap (λ l. l ++ (F ++ (G ++ replicate (n - directory_size (es ++ fs)) 0))) (head_is ∙ ap directory_head (sym count))
-    ∙ (assoc (i32_bytes (pos (length (es ++ fs)))) (replicate 124 0) _
-    ∙ ap (λ l. i32_bytes (pos (length (es ++ fs))) ++ (replicate 124 0 ++ l)) (sym (assoc F G _) ∙ ap (λ l. l ++ replicate (n - directory_size (es ++ fs)) 0) (sym (flat_append entry_bytes es fs))))))))
+    ∙ (append_assoc (head ++ F) G _ ∙ (append_assoc head F _ ∙ (ap (λ l. l ++ (F ++ (G ++ replicate (n - directory_size (es ++ fs)) 0))) (head_is ∙ ap directory_head (sym count))
+    ∙ (append_assoc (i32_bytes (pos (length (es ++ fs)))) (replicate 124 0) _
+    ∙ ap (λ l. i32_bytes (pos (length (es ++ fs))) ++ (replicate 124 0 ++ l)) (sym (append_assoc F G _) ∙ ap (λ l. l ++ replicate (n - directory_size (es ++ fs)) 0) (sym (flat_map-append entry_bytes es fs))))))))
   where
     sum_both : (xs ys : List Entry) → sum (map entry_len (xs ++ ys)) ≡ sum (map entry_len xs) + sum (map entry_len ys)
-    sum_both xs ys = ap sum (map_append entry_len xs ys) ∙ sum_by-append (λ n. n) (map entry_len xs) (map entry_len ys)
+    sum_both xs ys = ap sum (map-append entry_len xs ys) ∙ sum_by-append (λ n. n) (map entry_len xs) (map entry_len ys)
 
 -- a piece at the end of the bytes put was written over
 pub over_last : (old put new data' : List ℕ) (at n : ℕ) → put ≡ old ++ replicate n 0 → at ≡ length old → new ≡ data' → take at put ++ (new ++ drop (at + n) put) ≡ old ++ data'
 over_last old put new data' at n put_is at_is is =
     let low : take at put ≡ old = ap (λ l. take at l) put_is ∙ (ap (λ k. take k (old ++ replicate n 0)) at_is ∙ take-append_seam old (replicate n 0)) in
     let long : length put ≡ at + n = omega (arith, ap length put_is, length-append old (replicate n 0), length-replicate {A = ℕ} n 0, at_is) in
-    let high : drop (at + n) put ≡ [] = drop_end put (at + n) (omega (arith, long)) in
+    let high : drop (at + n) put ≡ [] = drop_all (at + n) put (omega (arith, long)) in
     ap (λ l. l ++ (new ++ drop (at + n) put)) low ∙ (ap (λ l. old ++ (new ++ l)) high ∙ (ap (λ l. old ++ l) (append-nil new) ∙ ap (λ l. old ++ l) is))
 
 -- what stands in a list after a part of it was written over
 pub put_as : (end k n : ℕ) (out new : List ℕ) → n ≡ k → take end out ++ (new ++ drop n (drop end out)) ≡ take end out ++ (new ++ drop (end + k) out)
 put_as end k n out new e = ap (λ m. take end out ++ (new ++ drop m (drop end out))) e ∙ ap (λ l. take end out ++ (new ++ l)) (behind end k out)
 
-pub size_of_both : (es fs : List Entry) → directory_size (es ++ fs) ≡ 128 + sum (map entry_len es) + sum (map entry_len fs)
-size_of_both es fs =
-    let both : sum (map entry_len (es ++ fs)) ≡ sum (map entry_len es) + sum (map entry_len fs) = ap sum (map_append entry_len es fs) ∙ sum_by-append (λ n. n) (map entry_len es) (map entry_len fs) in
-    omega (arith, both)
-
 pub all_here : (tiles : List Tile) (i : ℕ) (t : Tile) → i < length tiles → t ≡ get_or tiles i t → AllByRecursion IsEntry (entries_of (take i tiles)) → IsEntry (tile_of t).entry → AllByRecursion IsEntry (entries_of (take (i + 1) tiles))
 all_here tiles i t h e all one =
-    subst (AllByRecursion IsEntry) (sym (ap entries_of (take_here tiles i t h e) ∙ map_append (λ (z : Tile). (tile_of z).entry) (take i tiles) (t ∷ []))) (all_append IsEntry (entries_of (take i tiles)) (entries_of (t ∷ [])) all (one, tt))
+    subst (AllByRecursion IsEntry) (sym (ap entries_of (take_here tiles i t h e) ∙ map-append (λ (z : Tile). (tile_of z).entry) (take i tiles) (t ∷ []))) (All-both IsEntry (entries_of (take i tiles)) (entries_of (t ∷ [])) all (one, tt))

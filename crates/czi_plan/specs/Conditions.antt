@@ -1,19 +1,25 @@
 -- What a plan is made from.
-use Rattle.std.specs.Prelude.{◌≡◌, ◌≤◌, [], map}
+use Rattle.std.specs.Prelude.{◌≡◌, ℕ, List, [], map}
 use Rattle.std.specs.List.{AllByRecursion}
-use Rattle.std.specs.Option.{ForSome}
+use Rattle.czi_format.specs.Live.{Live}
+use Rattle.czi_image.specs.Change.{IsNone}
+use Rattle.czi_image.specs.Holds.{Holds, LiesAs}
 use Rattle.czi_image.specs.declared.index.Index.{Index}
-use Rattle.czi_image.specs.declared.types.DirItem.{DirItem}
+use Rattle.czi_machine.specs.Laws.{LiesLoosely}
+use Rattle.czi_machine.specs.Places.{space_of}
+use Rattle.czi_machine.specs.State.{State}
 use Rattle.czi_num.specs.Span.{span_of}
-use Rattle.czi_space.specs.State.{MapState, IsWhole}
+use Rattle.czi_space.specs.State.{MapState, IsWhole, space_of as space_in}
 use Rattle.czi_plan.specs.declared.plan.EditPlan.{EditPlan}
 
 -- nothing is planned yet
 pub record IsEmpty (p : EditPlan) : Type 0 where
+  pub change : IsNone p.change
   pub writes : p.writes.items ≡ []
   pub links : p.links.links ≡ []
   pub used : p.used.items ≡ []
   pub freed : p.freed.items ≡ []
+  pub held : p.held.items ≡ []
 
 -- The map has the extents and the length of the index; what it holds back begins and ends at multiples of 32.
 pub record IsMapOf (x : Index) (m : MapState) : Type 0 where
@@ -21,7 +27,9 @@ pub record IsMapOf (x : Index) (m : MapState) : Type 0 where
   pub length : x.length ≡ m.length
   pub held : AllByRecursion IsWhole m.held
 
--- The file header has its 80 bytes of data, and the directory its header: so it is of every index.
-pub record HasHeaders (x : Index) : Type 0 where
-  pub file : 80 ≤ x.header.allocated
-  pub directory : ForSome x.directory (λ (d : DirItem). 32 ≤ d.span.len)
+-- A state lies in an image, and in the index and the map of it.
+pub record LiesIn (image : List ℕ) (live : Live) (s : State) (x : Index) (m : MapState) : Type 0 where
+  pub loosely : LiesLoosely image live s
+  pub holds : Holds live x
+  pub lies : LiesAs s.layout x
+  pub space : space_in m ≡ space_of s

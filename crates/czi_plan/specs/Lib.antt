@@ -2,10 +2,10 @@ pub mod Pieces
 pub mod Directory
 pub mod Conditions
 pub mod Search
-pub mod Around
-pub mod Removal
 pub mod Geometry
 pub mod Placing
-pub mod Steps
-pub mod Written
-pub mod After
+pub mod Marks
+pub mod Listing
+pub mod Plan
+pub mod Does
+pub mod Removal

@@ -1,5 +1,5 @@
 -- Why a need has no place.
-use Rattle.std.specs.Prelude.{◌≡◌, Result, Ok, Err}
+use Rattle.std.specs.Prelude.{◌≡◌, Result, Err}
 use Rattle.czi_format.specs.Space.{Fit, Full}
 use Rattle.czi_plan.specs.declared.plan.PlanFault.{PlanFault}
 use Rattle.czi_plan.specs.declared.plan.PlanFault.TheVariants.{Full as Filled, Memory}
@@ -8,8 +8,3 @@ use Rattle.czi_plan.specs.declared.plan.PlanFault.TheVariants.{Full as Filled, M
 abbrev pub IsFull : PlanFault → Result Fit Full → Type 0
 IsFull (Filled need length) fit = fit ≡ Err (record { need = need; length = length })
 IsFull Memory fit = ⊥
-
--- the same, or memory was wanting where the need has a place
-abbrev pub IsCause : PlanFault → Result Fit Full → Type 0
-IsCause (Filled need length) fit = fit ≡ Err (record { need = need; length = length })
-IsCause Memory fit = (place : Fit) × (fit ≡ Ok place)

@@ -1,6 +1,6 @@
 //! New directories.
 
-ghost use Rattle.std.specs.Prelude.{◌≡◌, ◌+◌, ◌*◌, ◌^◌, ◌<◌, ◌≤◌, ◌++◌, pos, length, map, sum, take, drop, replicate, flat_map};
+ghost use Rattle.std.specs.Prelude.{◌≡◌, ◌+◌, ◌*◌, ◌^◌, ◌<◌, ◌≤◌, ◌++◌, pos, length, map, sum, take, drop, replicate, flat_map, IfOk, OnOk};
 ghost use Rattle.czi_format.specs.Entry.{IsEntry, entry_len, entry_bytes};
 ghost use Rattle.std.specs.List.{AllByRecursion};
 ghost use Rattle.czi_image.specs.View.{tile_of};
@@ -11,6 +11,7 @@ use czi_dv::{entry_len, write_directory_head, write_entry};
 use czi_image::Tile;
 use czi_num::write_bytes;
 use czi_region::{Piece, Region, written_piece};
+use std::alloc::{AllocError, Global};
 
 /// How many bytes the entries of these subblocks have.
 pub fn entries_len(tiles: &[Tile]) -> usize
@@ -26,7 +27,7 @@ pub fn entries_len(tiles: &[Tile]) -> usize
 }
 
 /// A place as it is stored in a position.
-pub fn position_of(place: u64) -> i64
+fn position_of(place: u64) -> i64
     requires { place < 2 ^ 63 }
     ensures { result ≡ pos place }
 {
@@ -88,4 +89,16 @@ pub fn stage_directory(before: &[Tile], behind: &[Tile], len: usize, region: &mu
     fill_directory(before, behind, region.get_mut(&piece));
     written_piece();
     piece
+}
+
+/// The bytes of the entries of these subblocks.
+pub fn entries_bytes(alloc: Global, tiles: &[Tile]) -> Result<Vec<u8>, AllocError>
+    requires { length tiles.now ≤ 2 ^ 20 }
+    ensures bytes { IfOk result (λ v. v.items ≡ flat_map entry_bytes (entries_of tiles.now)) }
+    ensures entries { OnOk result (AllByRecursion IsEntry (entries_of tiles.now)) }
+    ensures size { OnOk result (length (flat_map entry_bytes (entries_of tiles.now)) ≡ sum (map entry_len (entries_of tiles.now))) }
+{
+    let mut bytes = vec![in alloc; 0u8; entries_len(tiles)]?;
+    write_entries(tiles, 0, &mut bytes);
+    Ok(bytes)
 }

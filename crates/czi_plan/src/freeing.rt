@@ -1,17 +1,16 @@
-//! Spans that are freed, and the extents afterwards.
+//! Spans that are freed, and the map of free space once they are.
 
-ghost use Rattle.std.specs.Prelude.{◌≡◌, ◌+◌, ◌*◌, ◌≤◌, ◌++◌, ◌∷◌, [], map, length, filter, IfOk, OnOk};
+ghost use Rattle.std.specs.Prelude.{◌≡◌, ◌⊎◌, ◌+◌, ◌*◌, ◌≤◌, ◌++◌, ◌∷◌, [], map, length, OnOk};
 ghost use Rattle.czi_format.specs.Space.{without, with_all_freed, deleted_after};
 ghost use Rattle.czi_format.specs.Span.{span_le, sorted};
 ghost use Rattle.czi_num.specs.Span.{span_of};
-ghost use Rattle.czi_space.specs.State.{AreExtents, Has};
+ghost use Rattle.czi_space.specs.State.{AreExtents, Has, IsWhole, LiesInOne};
 ghost use Rattle.czi_plan.specs.Geometry.{AreFreed, AreUsed};
-ghost use Rattle.czi_plan.specs.Removal.{dead_of, freed_of};
+ghost use Rattle.czi_plan.specs.Plan.{dead_of, usable_of};
 
 use czi_num::Span;
 use czi_space::Map;
-use czi_spans::sort_spans;
-use std::alloc::{AllocError, Global};
+use std::alloc::AllocError;
 
 /// Frees a span: it is one that can be used again where the walk stands on it and it begins and ends at multiples
 /// of 32.
@@ -21,7 +20,7 @@ pub fn release(
     freed: &mut Vec<Span>,
     dead: &mut Vec<Span>,
 ) -> Result<(), AllocError>
-    ensures freed { OnOk result (map span_of freed.new.items ≡ map span_of freed.old.items ++ freed_of (record { span = span_of span.now; walked = walked } ∷ [])) }
+    ensures freed { OnOk result (map span_of freed.new.items ≡ map span_of freed.old.items ++ usable_of (record { span = span_of span.now; walked = walked } ∷ [])) }
     ensures dead { OnOk result (map span_of dead.new.items ≡ map span_of dead.old.items ++ dead_of (record { span = span_of span.now; walked = walked } ∷ [])) }
 {
     if walked && span.at % 32 == 0 && span.len % 32 == 0 {
@@ -32,7 +31,22 @@ pub fn release(
     Ok(())
 }
 
-/// Takes used spans out of a map. Those past its length were never in it.
+/// Takes a used span out of a map. One past its length was never in it.
+fn take_used(span: &Span, space: &mut Map)
+    requires rise { AreExtents 0 space.old.length space.old.extents }
+    requires whole { IsWhole (span_of span.now) }
+    requires lies { LiesInOne (span_of span.now) space.old.extents ⊎ (space.old.length ≤ span.now.at) }
+    requires spare { 2 ≤ space.old.spare }
+    ensures map { Has space.new (without (span_of span.now ∷ []) space.old.extents) space.old.held space.old.length }
+    ensures rise { AreExtents 0 space.old.length (without (span_of span.now ∷ []) space.old.extents) }
+    ensures spare { space.old.spare ≤ space.new.spare + 2 }
+{
+    if span.at < space.length() {
+        space.take(span);
+    }
+}
+
+/// Takes used spans out of a map.
 fn take_all(used: &[Span], space: &mut Map)
     requires rise { AreExtents 0 space.old.length space.old.extents }
     requires used { AreUsed space.old.length (map span_of used.now) space.old.extents }
@@ -42,11 +56,8 @@ fn take_all(used: &[Span], space: &mut Map)
     ensures length { space.new.length ≡ space.old.length }
     ensures spare { space.old.spare ≤ space.new.spare + 2 * length used.now }
 {
-    let length = space.length();
     for span in used {
-        if span.at < length {
-            space.take(span);
-        }
+        take_used(span, space);
     }
 }
 
@@ -54,40 +65,27 @@ fn take_all(used: &[Span], space: &mut Map)
 fn free_all(freed: &[Span], space: &mut Map)
     requires freed { AreFreed space.old.length (map span_of freed.now) space.old.extents }
     requires spare { 2 * length freed.now ≤ space.old.spare }
-    ensures { Has space.new (with_all_freed (map span_of freed.now) space.old.extents) space.old.held space.old.length }
+    ensures map { Has space.new (with_all_freed (map span_of freed.now) space.old.extents) space.old.held space.old.length }
+    ensures spare { space.old.spare ≤ space.new.spare + 2 * length freed.now }
 {
     for span in freed {
         space.free(span);
     }
 }
 
-/// A map of the extents once some spans were used and others freed. It holds nothing back, has the given length, which is
-/// at least that of the old map, and has memory for `spare` more extents and held spans.
-///
-/// # Errors
-///
-/// Where there is no memory for it.
-pub fn map_after(
-    alloc: Global,
-    space: &Map,
-    used: &[Span],
-    freed: &[Span],
-    spare: usize,
-    length: u64,
-) -> Result<Map, AllocError>
-    requires used { AreUsed space.now.length (map span_of used.now) space.now.extents }
-    requires freed { AreFreed space.now.length (sorted span_le (map span_of freed.now)) (without (map span_of used.now) space.now.extents) }
-    requires longer { space.now.length ≤ length }
-    ensures map { IfOk result (λ m. Has m (deleted_after (map span_of used.now) (map span_of freed.now) space.now.extents) [] length) }
-    ensures spare { IfOk result (λ m. spare ≤ m.spare) }
+/// Makes the map of an image that of the image after a plan: what was used is taken out of the extents, what was freed,
+/// which is in order of place, is put into them, and the length doesn't fall. It takes no memory.
+pub fn update_map(space: &mut Map, used: &[Span], freed: &[Span], image_len: u64)
+    requires rise { AreExtents 0 space.old.length space.old.extents }
+    requires used { AreUsed space.old.length (map span_of used.now) space.old.extents }
+    requires freed { AreFreed space.old.length (map span_of freed.now) (without (map span_of used.now) space.old.extents) }
+    requires in_order { sorted span_le (map span_of freed.now) ≡ map span_of freed.now }
+    requires longer { space.old.length ≤ image_len }
+    requires spare { 2 * length used.now + 2 * length freed.now ≤ space.old.spare }
+    ensures map { Has space.new (deleted_after (map span_of used.now) (map span_of freed.now) space.old.extents) space.old.held image_len }
+    ensures spare { space.old.spare ≤ space.new.spare + (2 * length used.now + 2 * length freed.now) }
 {
-    let mut in_order = freed.to_vec(alloc)?;
-    sort_spans(&mut in_order);
-    let mut after = Map::of_runs(alloc, space.extents().to_vec(alloc)?, space.length());
-    after.reserve(2 * used.len() + 2 * freed.len())?;
-    take_all(used, &mut after);
-    free_all(&in_order, &mut after);
-    after.set_length(length);
-    after.reserve(spare)?;
-    Ok(after)
+    take_all(used, space);
+    free_all(freed, space);
+    space.set_length(image_len);
 }

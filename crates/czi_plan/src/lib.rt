@@ -4,17 +4,17 @@
 
 mod directory;
 mod freeing;
-mod heads;
-mod laws;
+mod listing;
+mod marks;
 mod placing;
 mod plan;
 mod removal;
 mod search;
 #[cfg(test)]
 mod tests;
+mod touching;
 
-pub use freeing::map_after;
-pub use laws::{removal_apart, removal_written};
+pub use freeing::update_map;
 pub use plan::{EditPlan, PlanFault};
 pub use removal::{plan_remove, plan_remove_at};
 pub use search::tile_with;

@@ -3,6 +3,7 @@
 ghost use Rattle.std.specs.Prelude.{◌≡◌};
 ghost use Rattle.czi_plan.specs.declared.plan.PlanFault.TheVariants.{Memory};
 
+use czi_image::Change;
 use czi_links::Links;
 use czi_num::Span;
 use czi_region::Piece;
@@ -11,14 +12,18 @@ use std::alloc::{AllocError, Global};
 /// The plan of an edit. Places, spans and lengths are in bytes.
 #[derive(Drop)]
 pub struct EditPlan {
+    /// What becomes of the index.
+    pub change: Change,
     /// What is written before the commit: pieces of the region, each with its place in the image.
     pub writes: Vec<(u64, Piece)>,
     /// What the commit puts into the image.
     pub links: Links,
-    /// The spans of new segments.
+    /// The spans of the needs, in their order.
     pub used: Vec<Span>,
-    /// The spans that can be used again afterwards.
+    /// The spans that can be used again afterwards, in order of place.
     pub freed: Vec<Span>,
+    /// Those of them in which items lay: an undo can bring them back.
+    pub held: Vec<Span>,
     /// The image's length afterwards.
     pub length: u64,
 }
@@ -53,10 +58,12 @@ impl EditPlan {
         ensures { IsEmpty result }
     {
         EditPlan {
+            change: Change::new(alloc),
             writes: Vec::new(alloc),
             links: Links::new(alloc),
             used: Vec::new(alloc),
             freed: Vec::new(alloc),
+            held: Vec::new(alloc),
             length: 0,
         }
     }
@@ -65,10 +72,12 @@ impl EditPlan {
     pub fn clear(&mut self)
         ensures { IsEmpty self.new }
     {
+        self.change.clear();
         self.writes.clear();
         self.links.clear();
         self.used.clear();
         self.freed.clear();
+        self.held.clear();
         self.length = 0;
     }
 }

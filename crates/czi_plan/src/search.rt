@@ -88,13 +88,19 @@ fn have_one_key(own: &[Dim], wanted: &[Dim]) -> bool
         && have_axes(own, wanted)
 }
 
+/// Whether a subblock has the key of these dimensions.
+fn has_key(tile: &Tile, dims: &Dims) -> bool
+    ensures { result ≡ same_key (key (tile_of tile.now).entry.info.dims) (key (dims_of dims.now)) }
+{
+    have_one_key(tile.info.dims.list(), dims.list())
+}
+
 /// The place of the first subblock that has the key of these dimensions.
 pub fn tile_with(tiles: &[Tile], dims: &Dims) -> Option<usize>
     ensures { result ≡ tile_with (dims_of dims.now) (map tile_of tiles.now) }
 {
     for (i, tile) in tiles.iter().enumerate() {
-        let found = have_one_key(tile.info.dims.list(), dims.list());
-        if found {
+        if has_key(tile, dims) {
             return Some(i);
         }
     }

@@ -1,10 +1,15 @@
-ghost use Rattle.std.specs.Prelude.{◌≤◌, ◌^◌, IfOk};
+ghost use Rattle.std.specs.Prelude.{◌≡◌, ◌≤◌, ◌<◌, ◌^◌, map, IfOk};
 ghost use Rattle.std.specs.List.{AllByRecursion};
 ghost use Rattle.czi_region.specs.Pieces.{IsPiece};
+ghost use Rattle.czi_format.specs.Space.{without};
+ghost use Rattle.czi_format.specs.Span.{span_le, sorted};
 ghost use Rattle.czi_plan.specs.Conditions.{IsMapOf};
+ghost use Rattle.czi_plan.specs.Geometry.{AreFreed, AreUsed};
+ghost use Rattle.czi_num.specs.Span.{span_of};
+ghost use Rattle.czi_space.specs.State.{AreExtents};
 
 use crate::search::tile_with;
-use crate::{EditPlan, PlanFault, plan_remove};
+use crate::{EditPlan, PlanFault, plan_remove, update_map};
 use czi_doc::read_dims;
 use czi_image::{Index, read_index};
 use czi_num::{Span, write_bytes};
@@ -45,12 +50,16 @@ const DOCUMENT: [Part; 20] = [
     (1276, &[0]),
 ];
 
+fn put_at(image: &mut Vec<u8>, at: usize, bytes: &[u8]) {
+    let fits = bytes.len() <= image.len() && at <= image.len() - bytes.len();
+    if fits {
+        write_bytes(image, at, bytes);
+    }
+}
+
 fn put(image: &mut Vec<u8>, parts: &[Part]) {
     for (at, bytes) in parts {
-        let fits = bytes.len() <= image.len() && *at <= image.len() - bytes.len();
-        if fits {
-            write_bytes(image, *at, bytes);
-        }
+        put_at(image, *at, bytes);
     }
 }
 
@@ -72,14 +81,40 @@ fn map_of(alloc: Global, index: &Index) -> Result<Map, AllocError>
     Ok(Map::of_runs(alloc, extents, index.length))
 }
 
-// The plan of a removal, and the bytes of its first write.
-fn planned(
-    alloc: Global,
-    index: &Index,
-    dims: &[u8],
-) -> Result<Result<(EditPlan, Vec<u8>), PlanFault>, Fail> {
+// The free runs of a map once spans were used and freed, and some of these were held back.
+fn runs_after(
+    space: &mut Map,
+    used: &[Span],
+    freed: &[Span],
+    held: &[Span],
+    image_len: u64,
+) -> Result<Vec<Span>, AllocError>
+    requires rise { AreExtents 0 space.old.length space.old.extents }
+    requires used { AreUsed space.old.length (map span_of used.now) space.old.extents }
+    requires freed { AreFreed space.old.length (map span_of freed.now) (without (map span_of used.now) space.old.extents) }
+    requires in_order { sorted span_le (map span_of freed.now) ≡ map span_of freed.now }
+    requires longer { space.old.length ≤ image_len }
+{
+    space.reserve(2 * used.len() + 2 * freed.len())?;
+    update_map(space, used, freed, image_len);
+    for span in held {
+        space.reserve(1)?;
+        space.hold(span);
+    }
+    space.runs()
+}
+
+// The plan of a removal, the bytes of its first write, and the free runs afterwards.
+#[derive(Drop)]
+struct Removal {
+    plan: EditPlan,
+    bytes: Vec<u8>,
+    runs: Vec<Span>,
+}
+
+fn planned(alloc: Global, index: &Index, dims: &[u8]) -> Result<Result<Removal, PlanFault>, Fail> {
     let dims = read_dims(alloc, dims).ok().ok_or("no dimensions")?;
-    let map = map_of(alloc, index)?;
+    let mut map = map_of(alloc, index)?;
     let Some(_) = tile_with(index.tiles.as_slice(), &dims) else {
         return Err(Fail::from("no such subblock"));
     };
@@ -90,7 +125,8 @@ fn planned(
         Err(fault) => return Ok(Err(fault)),
     }
     let bytes = first_write(alloc, &region, &plan)?;
-    Ok(Ok((plan, bytes)))
+    let runs = runs_after(&mut map, &plan.used, &plan.freed, &plan.held, plan.length)?;
+    Ok(Ok(Removal { plan, bytes, runs }))
 }
 
 // The bytes of a plan's first write.
@@ -120,55 +156,65 @@ fn links_of(alloc: Global, plan: &EditPlan) -> Result<Vec<(u64, Vec<u8>)>, Alloc
     Ok(links)
 }
 
-const DIRECTORY: &[u8] = b"ZISRAWDIRECTORY\0\x80\0\0\0\0\0\0\0";
+const DIRECTORY: &[u8] = b"ZISRAWDIRECTORY\0\xA0\x43\x01\0\0\0\0\0";
+
+fn deleted(allocated: u8, more: u8) -> [u8; 24] {
+    let mut head = *b"DELETED\0\0\0\0\0\0\0\0\0\0\0\0\0\0\0\0\0";
+    head[16] = allocated;
+    head[17] = more;
+    head
+}
 
 #[test]
-fn the_directory_goes_into_a_hole(rt: HostRuntime) -> Result<(), Fail> {
+fn the_directory_is_changed_in_place(rt: HostRuntime) -> Result<(), Fail> {
     let alloc = rt.alloc();
     let index = index_of(alloc, 1280, &[])?;
-    let (plan, bytes) = planned(alloc, &index, b"C0,X0:4,Y0:2")?
+    let Removal {
+        mut plan,
+        bytes,
+        runs,
+    } = planned(alloc, &index, b"C0,X0:4,Y0:2")?
         .ok()
         .ok_or("no plan")?;
     assert_eq!(rt; plan.length, 1280);
-    assert!(rt; plan.used.as_slice() == [Span { at: 544, len: 160 }].as_slice());
-    let freed = [Span { at: 704, len: 320 }, Span { at: 1024, len: 256 }];
-    assert!(rt; plan.freed.as_slice() == freed.as_slice());
-    let writes = [(576, Piece { at: 0, len: 128 })];
-    assert!(rt; plan.writes.as_slice() == writes.as_slice());
-    assert_eq!(rt; bytes.as_slice(), [0u8; 128].as_slice());
+    assert!(rt; plan.used.is_empty() && plan.writes.is_empty() && bytes.is_empty());
+    let item = [Span { at: 704, len: 320 }];
+    assert!(rt; plan.freed.as_slice() == item.as_slice());
+    assert!(rt; plan.held.as_slice() == item.as_slice());
+    assert!(rt; runs.as_slice() == [Span { at: 544, len: 160 }].as_slice());
     let links = links_of(alloc, &plan)?;
     assert_eq!(rt; links.len(), 3);
     assert_eq!(rt;
         (links[0].0, links[0].1.as_slice()),
-        (84, [0x20, 2, 0, 0, 0, 0, 0, 0].as_slice())
+        (544, deleted(0xC0, 1).as_slice())
     );
-    assert_eq!(rt; (links[1].0, links[1].1.as_slice()), (544, DIRECTORY));
+    assert_eq!(rt;
+        (links[1].0, links[1].1.as_slice()),
+        (1048, [128, 0, 0, 0, 0, 0, 0, 0].as_slice())
+    );
     assert_eq!(rt;
         (links[2].0, links[2].1.as_slice()),
-        (
-            704,
-            b"DELETED\0\0\0\0\0\0\0\0\0\x20\x02\0\0\0\0\0\0".as_slice()
-        )
+        (1056, [0, 0, 0, 0].as_slice())
     );
+    plan.clear();
+    assert!(rt; plan.held.is_empty() && plan.freed.is_empty());
+    assert_eq!(rt; plan.links.count(), 0);
     Ok(())
 }
 
 #[test]
-fn past_the_end_the_directory_has_its_header_in_a_link(rt: HostRuntime) -> Result<(), Fail> {
+fn a_freed_span_alone_has_its_own_header(rt: HostRuntime) -> Result<(), Fail> {
     let alloc = rt.alloc();
     let index = index_of(alloc, 1280, &[(544, b"FOREIGN")])?;
-    let (mut plan, _) = planned(alloc, &index, b"C0,X0:4,Y0:2")?
+    let Removal { plan, runs, .. } = planned(alloc, &index, b"C0,X0:4,Y0:2")?
         .ok()
         .ok_or("no plan")?;
-    assert_eq!(rt; plan.length, 1440);
-    assert!(rt; plan.used.as_slice() == [Span { at: 1280, len: 160 }].as_slice());
+    assert_eq!(rt; plan.length, 1280);
+    assert!(rt; runs.is_empty());
     let links = links_of(alloc, &plan)?;
     assert_eq!(rt; links.len(), 3);
-    assert_eq!(rt; [links[0].0, links[1].0, links[2].0], [84, 704, 1280]);
-    assert_eq!(rt; links[2].1.as_slice(), DIRECTORY);
-    plan.clear();
-    assert!(rt; plan.writes.is_empty() && plan.used.is_empty() && plan.freed.is_empty());
-    assert_eq!(rt; plan.links.count(), 0);
+    assert_eq!(rt; [links[0].0, links[1].0, links[2].0], [704, 1048, 1056]);
+    assert_eq!(rt; links[0].1.as_slice(), deleted(0x20, 1).as_slice());
     Ok(())
 }
 
@@ -224,24 +270,170 @@ fn three(alloc: Global) -> Result<Index, Fail> {
     Ok(index)
 }
 
+// The links of a removal that is done in place.
+fn links_without(alloc: Global, index: &Index, dims: &[u8]) -> Result<Vec<(u64, Vec<u8>)>, Fail> {
+    let Removal { plan, .. } = planned(alloc, index, dims)?.ok().ok_or("no plan")?;
+    let in_place = plan.length == index.length && plan.used.is_empty() && plan.writes.is_empty();
+    if !in_place {
+        return Err(Fail::from("not in place"));
+    }
+    let links = links_of(alloc, &plan)?;
+    Ok(links)
+}
+
+// The place of the entries that are written, and the low bytes of the first one's position.
+fn entries_of(links: &[(u64, Vec<u8>)]) -> Option<(u64, u8, u8)> {
+    if links.len() < 4 {
+        return None;
+    }
+    let (place, bytes) = &links[3];
+    if bytes.len() < 8 {
+        return None;
+    }
+    Some((*place, bytes[6], bytes[7]))
+}
+
 #[test]
-fn the_other_subblocks_stay(rt: HostRuntime) -> Result<(), Fail> {
+fn the_entries_behind_move_up(rt: HostRuntime) -> Result<(), Fail> {
     let alloc = rt.alloc();
     let index = three(alloc)?;
-    for (dims, first, second) in [
-        (b"X0:1".as_slice(), (0x60, 3), (0xA0, 4)),
-        (b"X1:1".as_slice(), (0x20, 2), (0xA0, 4)),
-        (b"X2:1".as_slice(), (0x20, 2), (0x60, 3)),
+    for (dims, at, moved) in [
+        (b"X0:1".as_slice(), 544, Some((1664, 0x60, 3))),
+        (b"X1:1".as_slice(), 864, Some((1716, 0xA0, 4))),
+        (b"X2:1".as_slice(), 1184, None),
     ] {
-        let (plan, bytes) = planned(alloc, &index, dims)?.ok().ok_or("no plan")?;
-        assert!(rt; plan.used.as_slice() == [Span { at: 1824, len: 288 }].as_slice());
-        assert_eq!(rt; plan.length, 2112);
-        assert_eq!(rt; bytes.len(), 256);
-        assert_eq!(rt; bytes[0], 2);
-        assert_eq!(rt; (bytes[134], bytes[135]), first);
-        assert_eq!(rt; (bytes[186], bytes[187]), second);
-        assert_eq!(rt; bytes[232..].iter().all(|b| *b == 0), true);
+        let links = links_without(alloc, &index, dims)?;
+        assert_eq!(rt; entries_of(links.as_slice()), moved);
+        assert!(rt; links.len() >= 3);
+        assert_eq!(rt;
+            (links[0].0, links[0].1.as_slice()),
+            (at, deleted(0x20, 1).as_slice())
+        );
+        assert_eq!(rt;
+            (links[1].0, links[1].1.as_slice()),
+            (1528, [0xE8, 0, 0, 0, 0, 0, 0, 0].as_slice())
+        );
+        assert_eq!(rt;
+            (links[2].0, links[2].1.as_slice()),
+            (1536, [2, 0, 0, 0].as_slice())
+        );
     }
+    Ok(())
+}
+
+// A document of 720 subblocks of 320 bytes in a row, which begin at X = 0, 4, 8 and so on, with the directory behind
+// them. It has no room for more.
+const MANY: [Part; 8] = [
+    (0, b"ZISRAWFILE"),
+    (16, &[0, 2]),
+    (24, &[0, 2]),
+    (84, &[0x20, 0x86, 3]),
+    (230_944, b"ZISRAWDIRECTORY"),
+    (230_960, &[0x40, 3, 1]),
+    (230_968, &[0x40, 3, 1]),
+    (230_976, &[0xD0, 2]),
+];
+
+const ENTRY: [Part; 3] = [
+    (0, b"DV"),
+    (28, &[3]),
+    (
+        32,
+        b"C\0\0\0\0\0\0\0\x01\0\0\0\0\0\0\0\0\0\0\0X\0\0\0\0\0\0\0\x04\0\0\0\0\0\0\0\0\0\0\0Y\0\0\0\0\0\0\0\x02",
+    ),
+];
+
+const SUBBLOCK: [Part; 5] = [
+    (0, b"ZISRAWSUBBLOCK"),
+    (16, &[0x20, 1]),
+    (24, &[8, 1]),
+    (40, &[8]),
+    (76, &[3]),
+];
+
+fn put_behind(image: &mut Vec<u8>, place: usize, parts: &[Part])
+    requires place { place < 2 ^ 32 }
+    requires near { AllByRecursion (λ p. p.0 < 2 ^ 32) parts.now }
+{
+    for (at, bytes) in parts {
+        put_at(image, place + *at, bytes);
+    }
+}
+
+fn many(alloc: Global) -> Result<Index, Fail> {
+    let mut image = vec![in alloc; 0u8; 297_344]?;
+    put(&mut image, &MANY);
+    for i in 0..720usize {
+        let place = 544 + 320 * i;
+        let entry = 231_104 + 92 * i;
+        put_behind(&mut image, place, &SUBBLOCK);
+        put_behind(&mut image, entry, &ENTRY);
+        put_at(&mut image, entry + 6, &(place as u64).to_le_bytes());
+        put_at(&mut image, entry + 56, &((4 * i) as u32).to_le_bytes());
+    }
+    let mut rig = MemRig::new(alloc, &image, b"")?;
+    let index = read_index(alloc, &mut rig).ok().ok_or("refused")?;
+    Ok(index)
+}
+
+#[test]
+fn at_65536_bytes_the_entries_behind_still_move_up(rt: HostRuntime) -> Result<(), Fail> {
+    let alloc = rt.alloc();
+    let index = many(alloc)?;
+    let Removal { plan, runs, .. } = planned(alloc, &index, b"C0,X28:4,Y0:2")?
+        .ok()
+        .ok_or("no plan")?;
+    assert_eq!(rt; plan.length, 297_344);
+    assert!(rt; plan.used.is_empty() && plan.writes.is_empty() && runs.is_empty());
+    let item = [Span { at: 2784, len: 320 }];
+    assert!(rt; plan.freed.as_slice() == item.as_slice());
+    assert!(rt; plan.held.as_slice() == item.as_slice());
+    assert_eq!(rt; plan.links.count(), 4);
+    if plan.links.count() == 4 {
+        let (place, range) = plan.links.link(3);
+        assert_eq!(rt; (place, range.len()), (231_748, 65_504));
+    }
+    Ok(())
+}
+
+#[test]
+fn past_65536_bytes_there_is_a_new_directory(rt: HostRuntime) -> Result<(), Fail> {
+    let alloc = rt.alloc();
+    let index = many(alloc)?;
+    let Removal { plan, bytes, runs } = planned(alloc, &index, b"C0,X24:4,Y0:2")?
+        .ok()
+        .ok_or("no plan")?;
+    assert_eq!(rt; plan.length, 380_224);
+    let new = Span {
+        at: 297_344,
+        len: 82_880,
+    };
+    let old = Span {
+        at: 230_944,
+        len: 66_400,
+    };
+    let item = Span { at: 2464, len: 320 };
+    assert!(rt; plan.used.as_slice() == [new].as_slice());
+    assert!(rt; plan.freed.as_slice() == [item, old].as_slice());
+    assert!(rt; plan.held.as_slice() == [item].as_slice());
+    assert!(rt; runs.as_slice() == [old].as_slice());
+    let writes = [(297_376, Piece { at: 0, len: 82_848 })];
+    assert!(rt; plan.writes.as_slice() == writes.as_slice());
+    assert_eq!(rt; bytes.len(), 82_848);
+    assert_eq!(rt; (bytes[0], bytes[1]), (0xCF, 2));
+    assert_eq!(rt; (bytes[686], bytes[687]), (0xE0, 0x0A));
+    assert_eq!(rt; bytes[66_276..].iter().all(|b| *b == 0), true);
+    let links = links_of(alloc, &plan)?;
+    assert_eq!(rt; links.len(), 4);
+    assert_eq!(rt;
+        [links[0].0, links[1].0, links[2].0, links[3].0],
+        [84, 2464, 230_944, 297_344]
+    );
+    assert_eq!(rt;
+        links[0].1.as_slice(),
+        [0x80, 0x89, 4, 0, 0, 0, 0, 0].as_slice()
+    );
+    assert_eq!(rt; links[3].1.as_slice(), DIRECTORY);
     Ok(())
 }
 
@@ -267,15 +459,16 @@ fn lengthened(index: Index, length: u64) -> Index
 #[test]
 fn at_the_limit_there_is_no_place(rt: HostRuntime) -> Result<(), Fail> {
     let alloc = rt.alloc();
-    for (length, full) in [(1_099_511_627_616, false), (1_099_511_627_617, true)] {
-        let index = index_of(alloc, 1280, &[(544, b"FOREIGN")])?;
+    for (length, full) in [(1_099_511_544_896, false), (1_099_511_544_897, true)] {
+        let index = many(alloc)?;
         if index.length > length {
             return Err(Fail::from("longer"));
         }
         let index = lengthened(index, length);
-        let answer = planned(alloc, &index, b"C0,X0:4,Y0:2")?;
+        let answer = planned(alloc, &index, b"C0,X24:4,Y0:2")?;
         if full {
-            assert!(rt; answer.err() == Some(PlanFault::Full { need: 160, length }));
+            let need = 82_880;
+            assert!(rt; answer.err() == Some(PlanFault::Full { need, length }));
         } else {
             assert!(rt; answer.is_ok());
         }

@@ -5,14 +5,12 @@ use Rattle.czi_format.specs.Entry.{IsEntry, entry_len, entry_bytes}
 use Rattle.czi_image.specs.View.{tile_of}
 use Rattle.czi_image.specs.declared.types.Tile.{Tile}
 use Rattle.czi_plan.specs.Directory.{entries_of}
-use Rattle.czi_plan.proofs.Lists.{all_append}
 use Rattle.czi_plan.proofs.Entries.{filled}
+use Rattle.czi_machine.proofs.Tiled.{All-both}
 use Rattle.czi_plan.proofs.directory.fill_directory.Goals as goal
 
 pub returns-clause-written : goal.returns-clause-written
 returns-clause-written c =
-    let es = entries_of c.args.before.now in
-    let fs = entries_of c.args.behind.now in
     let s1 : ℕ = sum (map entry_len (entries_of c.args.before.now)) in
     let s2 : ℕ = sum (map entry_len (entries_of c.args.behind.now)) in
     let end1 : c.write_entries-end.result ≡ 128 + s1 = c.write_entries-end.ensures.end in
@@ -26,4 +24,4 @@ returns-clause-written c =
     c.write_entries-end.ensures.seam refl refl
 
 pub returns-clause-entries : goal.returns-clause-entries
-returns-clause-entries c = all_append IsEntry (entries_of c.args.before.now) (entries_of c.args.behind.now) c.write_entries-end.ensures.entries c.write_entries.ensures.entries
+returns-clause-entries c = All-both IsEntry (entries_of c.args.before.now) (entries_of c.args.behind.now) c.write_entries-end.ensures.entries c.write_entries.ensures.entries

@@ -1,8 +1,7 @@
-use Rattle.std.proofs.Common.{◌≡◌, ℕ, ◌+◌, ◌≤◌, take, length, replicate, ap, ◌∙◌, arith, drop, length-append}
+use Rattle.std.proofs.Common.{◌≡◌, ℕ, ◌+◌, ◌≤◌, take, length, replicate, ap, ◌∙◌, arith, drop, length-append, ◌++◌}
 use Rattle.std.proofs.lemmas.List.{length-replicate}
 use Rattle.czi_region.specs.Pieces.{bytes_put}
 use Rattle.czi_plan.specs.Directory.{entries_of, data_in}
-use Rattle.std.proofs.Common.{◌++◌}
 use Rattle.czi_plan.proofs.Entries.{over_last}
 use Rattle.czi_plan.proofs.directory.stage_directory.Goals as goal
 

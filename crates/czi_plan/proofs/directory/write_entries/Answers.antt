@@ -1,12 +1,11 @@
 use Rattle.std.proofs.Common.{◌≡◌, ℕ, ◌+◌, ◌-◌, List, length, ◌∙◌, arith, subst}
-use Rattle.czi_format.specs.Entry.{entry_bytes}
+use Rattle.czi_format.specs.Entry.{entry_bytes, IsEntry}
 use Rattle.czi_image.specs.View.{tile_of}
 use Rattle.czi_plan.specs.Directory.{entries_of}
 use Rattle.std.specs.List.{AllByRecursion}
-use Rattle.czi_format.specs.Entry.{IsEntry}
 use Rattle.czi_image.specs.declared.types.Tile.{Tile}
-use Rattle.czi_plan.proofs.Lists.{take_end}
 use Rattle.czi_plan.proofs.Entries.{sum_here, entry_next, put_as, all_here}
+use Rattle.std.proofs.lemmas.List.{take_all}
 use Rattle.czi_plan.proofs.directory.write_entries.Goals as goal
 
 pub loop-tile-preserved : goal.loop-tile-preserved
@@ -27,4 +26,4 @@ loop-tile-preserved c =
     }
 
 pub returns-clause-entries : goal.returns-clause-entries
-returns-clause-entries c = subst (λ (ts : List Tile). AllByRecursion IsEntry (entries_of ts)) (take_end c.args.tiles.now c.loop-tile.tile-index (omega (arith, c.loop-tile-test.false))) c.loop-tile.invariant.entries
+returns-clause-entries c = subst (λ (ts : List Tile). AllByRecursion IsEntry (entries_of ts)) (take_all c.loop-tile.tile-index c.args.tiles.now (omega (arith, c.loop-tile-test.false))) c.loop-tile.invariant.entries

@@ -1,4 +1,4 @@
-use Rattle.std.proofs.Common.{◌≡◌, ◌*◌, ◌≤◌, map, drop, length}
+use Rattle.std.proofs.Common.{◌≡◌, ◌+◌, ◌*◌, ◌≤◌, map, drop}
 use Rattle.czi_format.specs.Space.{with_all_freed}
 use Rattle.czi_num.specs.Span.{span_of}
 use Rattle.czi_plan.specs.Geometry.{AreFreed}
@@ -10,5 +10,5 @@ invariant-loop-span l = record {
   extents : with_all_freed (map span_of (drop l.span-index l.freed)) l.space.extents ≡ with_all_freed (map span_of l.freed) l.initial.space.extents;
   held : l.space.held ≡ l.initial.space.held;
   size : l.space.length ≡ l.initial.space.length;
-  spare : 2 * length (drop l.span-index l.freed) ≤ l.space.spare;
+  spare : l.initial.space.spare ≤ l.space.spare + 2 * l.span-index;
 }

@@ -1,23 +1,19 @@
-use Rattle.std.proofs.Common.{map}
+use Rattle.std.proofs.Common.{◌≡◌, ◌++◌, List, [], ◌∷◌, map, length, ap, sym, ◌∙◌, arith}
+use Rattle.czi_format.specs.Span.{span_le, sorted}
+use Rattle.czi_image.specs.Holds.{tile_place}
 use Rattle.czi_num.specs.Span.{span_of}
-use Rattle.czi_plan.specs.Removal.{freed_of, dead_of}
-use Rattle.czi_plan.proofs.Gone.{both_gone, one_gone, freed-append, dead-append}
+use Rattle.czi_num.specs.declared.span.Span.{Span as CodeSpan}
+use Rattle.czi_plan.specs.Plan.{left_directory, usable_of}
+use Rattle.czi_plan.proofs.Order.{taken_whole}
+use Rattle.czi_plan.proofs.Removing.{usable_first}
 use Rattle.czi_plan.proofs.removal.release_removed.Goals as goal
 
-pub returns-in_ok-release-2-clause-freed : goal.returns-in_ok-release-2-clause-freed
-returns-in_ok-release-2-clause-freed c =
-    both_gone freed_of c.args.index.now c.args.i c.index-tile.result.now c.in-Some.directory (map span_of c.args.freed.now.items) (map span_of c.release.new.freed.items) (map span_of c.release-in-Some.new.freed.items)
-    freed-append c.requires c.index-tile.ensures c.in-Some.is c.in_ok-release.ensures.freed c.in_ok-release-2.ensures.freed
-
-pub returns-in_ok-release-2-clause-dead : goal.returns-in_ok-release-2-clause-dead
-returns-in_ok-release-2-clause-dead c =
-    both_gone dead_of c.args.index.now c.args.i c.index-tile.result.now c.in-Some.directory (map span_of c.args.dead.now.items) (map span_of c.release.new.dead.items) (map span_of c.release-in-Some.new.dead.items)
-    dead-append c.requires c.index-tile.ensures c.in-Some.is c.in_ok-release.ensures.dead c.in_ok-release-2.ensures.dead
-
-pub returns-in_default-clause-freed : goal.returns-in_default-clause-freed
-returns-in_default-clause-freed c =
-    one_gone freed_of c.args.index.now c.args.i c.index-tile.result.now (map span_of c.args.freed.now.items) (map span_of c.release.new.freed.items) c.requires c.index-tile.ensures c.in_default.is c.in_ok-release.ensures.freed
-
-pub returns-in_default-clause-dead : goal.returns-in_default-clause-dead
-returns-in_default-clause-dead c =
-    one_gone dead_of c.args.index.now c.args.i c.index-tile.result.now (map span_of c.args.dead.now.items) (map span_of c.release.new.dead.items) c.requires c.index-tile.ensures c.in_default.is c.in_ok-release.ensures.dead
+pub returns-clause-freed : goal.returns-clause-freed
+returns-clause-freed c =
+    let first : map span_of c.release.new.freed.items ≡ usable_of (tile_place c.args.tile.now ∷ []) = c.in_ok-release.ensures.freed ∙ ap (λ (l : List CodeSpan). map span_of l ++ usable_of (tile_place c.args.tile.now ∷ [])) c.requires.no_held in
+    let both : c.extend_from_slice.new.self.items ≡ c.release.new.freed.items = c.in_ok-extend_from_slice.ensures.items ∙ (λ j. c.requires.no_freed j ++ c.deref.ensures.value j) in
+    let freed : map span_of c.release_directory.new.freed.items ≡ usable_of (tile_place c.args.tile.now ∷ left_directory c.args.change.now c.args.directory.now)
+    = c.in_ok-release_directory.ensures.freed ∙ (ap (λ l. l ++ usable_of (left_directory c.args.change.now c.args.directory.now)) (ap (map span_of) both ∙ first) ∙ sym (usable_first (tile_place c.args.tile.now) (left_directory c.args.change.now c.args.directory.now))) in
+    let long : length c.sort_spans.new.spans ≡ length c.release_directory.new.freed.items = c.sort_spans.auto.spans ∙ ap length c.deref_mut.ensures.value in
+    ap (map span_of) (taken_whole c.release_directory.new.freed.len c.sort_spans.new.spans c.release_directory.new.freed.items long (omega (arith, c.release_directory.new.freed.ok)))
+    ∙ (c.sort_spans.ensures ∙ ap (sorted span_le) (ap (map span_of) c.deref_mut.ensures.value ∙ freed))

@@ -1,5 +1,5 @@
 use Rattle.std.proofs.Common.{◌≡◌, true, false, sym, ◌∙◌}
-use Rattle.czi_plan.proofs.Keys.{keys_alike, first_differs, second_differs}
+use Rattle.czi_plan.proofs.Axes.{keys_alike, first_differs, second_differs}
 use Rattle.czi_plan.proofs.search.have_one_key.Goals as goal
 use Rattle.czi_plan.proofs.search.have_one_key.Goals.{then-have_sizes, else-have_sizes}
 

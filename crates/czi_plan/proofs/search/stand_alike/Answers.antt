@@ -1,7 +1,7 @@
 use Rattle.std.proofs.Common.{◌≡◌, sym, ◌∙◌, count_by}
 use Rattle.czi_doc.specs.declared.dimensions.Dim.{Dim}
 use Rattle.czi_plan.specs.Search.{has_axis}
-use Rattle.czi_plan.proofs.Lists.{all_more}
+use Rattle.czi_plan.proofs.Entries.{all_more}
 use Rattle.czi_plan.proofs.search.stand_alike.Goals as goal
 
 pub loop-dim-preserved : goal.loop-dim-preserved

@@ -1,37 +1,26 @@
-use Rattle.std.proofs.Common.{◌≡◌, List, map, get_or, true, ap, sym, ◌∙◌, arith, inl, inr}
+use Rattle.std.proofs.Common.{◌≡◌, get_or, ap, sym, ◌∙◌, arith, inl, inr}
 use Rattle.std.proofs.lemmas.Bool.{cases_lt}
-use Rattle.czi_doc.specs.View.{dim_of, dims_of}
-use Rattle.czi_doc.specs.declared.dimensions.Dim.{Dim}
+use Rattle.czi_doc.specs.View.{dims_of}
 use Rattle.czi_format.specs.Key.{key}
 use Rattle.czi_format.specs.Live.{Tile}
 use Rattle.czi_image.specs.View.{tile_of}
 use Rattle.czi_image.specs.declared.types.Tile.{Tile as CodeTile}
 use Rattle.czi_machine.specs.Edit.{same_key}
 use Rattle.czi_space.proofs.Edited.{read_as}
-use Rattle.czi_plan.proofs.Keys.{first_hit, first_miss}
+use Rattle.czi_plan.proofs.Axes.{first_hit, first_miss}
 use Rattle.czi_plan.proofs.search.tile_with.Goals as goal
 
-pub returns-then-found : goal.returns-then-found
-returns-then-found c =
-    let item : CodeTile = c.index-tiles-i.result in
-    let here : same_key (key (dims_of (get_or c.args.tiles.now c.loop-i.i item).info.dims)) (key (dims_of c.args.dims.now)) ≡ true
-    = ap (λ (t : CodeTile). same_key (key (dims_of t.info.dims)) (key (dims_of c.args.dims.now))) (sym c.index-tiles-i.is)
-    ∙ (ap (λ (l : List Dim). same_key (key (map dim_of l)) (key (dims_of c.args.dims.now))) (sym c.list.ensures.list)
-    ∙ (ap (λ (l : List Dim). same_key (key (map dim_of c.list.result.now)) (key (map dim_of l))) (sym c.list-in-loop-i.ensures.list)
-    ∙ (sym c.have_one_key-found.ensures ∙ c.if-found.true))) in
-    first_hit tile_of (λ (t : Tile). same_key (key t.entry.info.dims) (key (dims_of c.args.dims.now))) c.args.tiles.now c.loop-i.i item c.loop-i-test.true (λ k l. c.loop-i.invariant k item l) here
+pub returns-then-has_key : goal.returns-then-has_key
+returns-then-has_key c =
+    first_hit tile_of (λ (t : Tile). same_key (key t.entry.info.dims) (key (dims_of c.args.dims.now))) c.args.tiles.now c.loop-i.i c.index-tiles-i.result c.loop-i-test.true (λ k l. c.loop-i.invariant k c.index-tiles-i.result l)
+    (ap (λ (t : CodeTile). same_key (key (dims_of t.info.dims)) (key (dims_of c.args.dims.now))) (sym c.index-tiles-i.is) ∙ (sym c.has_key.ensures ∙ c.if-has_key.true))
 
 pub loop-i-preserved : goal.loop-i-preserved
 loop-i-preserved c = λ k d l. elim (cases_lt k c.loop-i.i) [
   | inl low ↦ c.loop-i.invariant k d low
-  | inr high ↦
-      let item : CodeTile = c.index-tiles-i.result in
-      let last : k ≡ c.loop-i.i = omega (arith, l, high) in
+  | inr high ↦ let last : k ≡ c.loop-i.i = omega (arith, l, high) in
       ap (λ n. same_key (key (dims_of (get_or c.args.tiles.now n d).info.dims)) (key (dims_of c.args.dims.now))) last
-      ∙ (ap (λ (t : CodeTile). same_key (key (dims_of t.info.dims)) (key (dims_of c.args.dims.now))) (read_as c.args.tiles.now c.loop-i.i item d c.loop-i-test.true c.index-tiles-i.is)
-      ∙ (ap (λ (l : List Dim). same_key (key (map dim_of l)) (key (dims_of c.args.dims.now))) (sym c.list.ensures.list)
-      ∙ (ap (λ (l : List Dim). same_key (key (map dim_of c.list.result.now)) (key (map dim_of l))) (sym c.list-in-loop-i.ensures.list)
-      ∙ (sym c.have_one_key-found.ensures ∙ c.if-found.false))))
+      ∙ (ap (λ (t : CodeTile). same_key (key (dims_of t.info.dims)) (key (dims_of c.args.dims.now))) (read_as c.args.tiles.now c.loop-i.i c.index-tiles-i.result d c.loop-i-test.true c.index-tiles-i.is) ∙ (sym c.has_key.ensures ∙ c.if-has_key.false))
 ]
 
 pub returns : goal.returns

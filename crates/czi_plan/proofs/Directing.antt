@@ -1,0 +1,348 @@
+-- What the pieces of a plan put, and the directory of subblocks after they were written, as the machine asks for it.
+use Rattle.std.proofs.Common.{◌≡◌, ◌⊎◌, ℕ, zero, suc, ◌+◌, ◌-◌, ◌<◌, ◌≤◌, ◌^◌, ℤ, pos, negsuc, List, [], ◌∷◌, ◌++◌, map, filter, length, sum, true, false, Bool, not, Option, Some, None, option_map, option_to_list, refl, ap, sym, ◌∙◌, subst, arith, inl, inr, append-nil, length-append}
+use Rattle.std.specs.Bool.{⊤}
+use Rattle.std.specs.List.{AllByRecursion, flat_map, list_any}
+use Rattle.std.proofs.lemmas.Bool.{and_parts, cases_Bool, cases_lt, leb-true}
+use Rattle.std.proofs.lemmas.List.{map-append}
+use Rattle.std.proofs.lemmas.List.Sorted.{IsPermutation-sym}
+use Rattle.std.proofs.lemmas.List.Sums.{sum_by-cons}
+use Rattle.czi_format.specs.Bytes.{i64_bytes}
+use Rattle.czi_format.specs.Entry.{Entry, IsEntry, entry, entry_bytes, entry_len}
+use Rattle.czi_format.specs.Live.{Directory, Tile as FormatTile, directory}
+use Rattle.czi_format.specs.Partial.{◌>>=◌, none_or}
+use Rattle.czi_format.specs.Segment.{Segment, directory_id, data_of as data_in_segment, extent, header_bytes, in_segment, sound_segment}
+use Rattle.czi_format.specs.Space.{Space, deleted_after, same_span, use_span}
+use Rattle.czi_format.specs.Span.{Span, end_of}
+use Rattle.czi_format.proofs.Local.{All-append, IsItsOwn, directory_own}
+use Rattle.czi_format.proofs.Readings.{IsSound, bind_some, both_true, is_sound}
+use Rattle.czi_image.specs.Change.{directory_in, directory_set}
+use Rattle.czi_image.specs.Holds.{extent_of, lies_at}
+use Rattle.czi_image.specs.Spans.{directory_span}
+use Rattle.czi_image.specs.declared.change.DirectoryChange.{DirectoryChange}
+use Rattle.czi_image.specs.declared.change.DirectoryChange.TheVariants.{Kept, Patched, New}
+use Rattle.czi_image.specs.declared.index.Index.{Index}
+use Rattle.czi_image.specs.declared.types.DirItem.{DirItem}
+use Rattle.czi_links.specs.Record.{Bytes}
+use Rattle.czi_machine.specs.Change.{set_new}
+use Rattle.czi_machine.specs.Cover.{between, cover}
+use Rattle.czi_machine.specs.Data.{directory_data}
+use Rattle.czi_machine.specs.Patch.{IsAmong, PatchPuts, total}
+use Rattle.czi_machine.specs.Planned.{ListsTiles}
+use Rattle.czi_machine.specs.Writes.{PutsDeleted, PutsPointer, deleted_segment, head}
+use Rattle.czi_machine.specs.Written.{Piece, Puts, byte_of, piece_span}
+use Rattle.czi_machine.proofs.Clear.{heads_within}
+use Rattle.czi_machine.proofs.Cover.{cover-append, cover-sorted}
+use Rattle.czi_machine.proofs.LiveStand.{bytes_same}
+use Rattle.czi_machine.proofs.Over.{apart_put, put_within}
+use Rattle.czi_machine.proofs.Patched.{entry_codec, length-written}
+use Rattle.czi_machine.proofs.PatchPieces.{entries_patch}
+use Rattle.czi_machine.proofs.Placing.{covers_own}
+use Rattle.czi_machine.proofs.Steady.{on_all}
+use Rattle.czi_machine.proofs.Tiled.{All-filter, All-map, All-weaken}
+use Rattle.czi_spans.proofs.Sorting.{all_moved}
+use Rattle.czi_plan.specs.Directory.{directory_size, need_of}
+use Rattle.czi_plan.specs.Geometry.{AreParts}
+use Rattle.czi_plan.specs.Listing.{IsPlace}
+use Rattle.czi_plan.specs.Marks.{AreInOrder, byte_span, deleted_mark, is_new, some_mark, wanted}
+use Rattle.czi_plan.specs.Pieces.{piece_of}
+use Rattle.czi_plan.proofs.Entries.{size_of_both}
+use Rattle.czi_plan.proofs.Linking.{AreWhole, OwnMarks, cover-fewer, is_32, low_none, marks_by, some_cover, spans_are, wanted_cover, writes_by}
+use Rattle.czi_plan.proofs.Order.{at_place}
+use Rattle.czi_plan.proofs.Removing.{fit_place, kept_of, pointers_of, used_by, written_dir}
+
+-- nothing is written where no piece is
+not_put : (pieces : List Piece) (q : ℕ) → cover (map piece_span pieces) q ≡ 0 → byte_of pieces q ≡ None
+not_put pieces q none = on_byte (byte_of pieces q) refl
+  where
+    on_byte : (o : Option ℕ) → byte_of pieces q ≡ o → o ≡ None
+    on_byte None e = refl
+    on_byte (Some b) e = absurd (omega (arith, put_within pieces q b e, none))
+
+each_among : (xs : List Piece) → AllByRecursion (λ p. IsAmong p xs) xs
+each_among [] = tt
+each_among (x ∷ xs) = ((0, refl), All-weaken (λ p. IsAmong p xs) (λ p. IsAmong p (x ∷ xs)) (λ p h. (suc h.0, h.1)) xs (each_among xs))
+
+abbrev pub IsPut : List Piece → Bytes → Type 0
+IsPut pieces b = IsAmong (piece_of b) pieces × Puts pieces b.place b.bytes
+
+abbrev pub PutsHead : List Piece → Span → Type 0
+PutsHead pieces e = Puts pieces e.at (header_bytes (deleted_segment e))
+
+-- What the pieces of a plan put: its writes, marks of its own, and headers of new DELETED extents and of dead spans.
+pub record AreWritten (pieces : List Piece) (ws own : List Bytes) (after dead es : List Span) : Type 0 where
+  pub puts_writes : AllByRecursion (IsPut pieces) ws
+  pub puts_own : AllByRecursion (IsPut pieces) own
+  pub puts_new : AllByRecursion (PutsHead pieces) (filter (is_new es) after)
+  pub puts_dead : AllByRecursion (PutsHead pieces) dead
+  pub covers : (q : ℕ) → cover (map piece_span pieces) q ≡ cover (map byte_span ws) q + (cover (map byte_span own) q + (cover (map head (filter (is_new es) after)) q + cover (map head dead) q))
+
+pub are_written : (ws own : List Bytes) (used freed dead es : List Span) (links : List Bytes) → ((q : ℕ) → cover (map piece_span (map piece_of (ws ++ links))) q ≤ 1) → AreInOrder own used freed dead es links
+    → AreWritten (map piece_of (ws ++ links)) ws own (deleted_after used freed es) dead es
+are_written ws own used freed dead es links once are =
+    let ps : List Piece = map piece_of (ws ++ links) in
+    let N : List Span = filter (is_new es) (deleted_after used freed es) in
+    let put : AllByRecursion (λ (p : Piece). IsAmong p ps × Puts ps p.place p.bytes) ps = on_all (λ (p : Piece). IsAmong p ps) (λ (p : Piece). Puts ps p.place p.bytes) _ (λ p a b. (a, b)) ps (each_among ps) (apart_put ps once) in
+    let parts = All-append (IsPut ps) ws links (All-map piece_of (λ (p : Piece). IsAmong p ps × Puts ps p.place p.bytes) (ws ++ links) put) in
+    let first = All-append (IsPut ps) own (map deleted_mark N ++ map deleted_mark dead) (all_moved (IsPut ps) links (wanted own used freed dead es) (IsPermutation-sym (wanted own used freed dead es) links are.moved) parts.1) in
+    let second = All-append (IsPut ps) (map deleted_mark N) (map deleted_mark dead) first.1 in
+    let heads : (xs : List Span) → AllByRecursion (IsPut ps) (map deleted_mark xs) → AllByRecursion (PutsHead ps) xs = λ xs all. All-weaken (λ (s : Span). IsPut ps (deleted_mark s)) (PutsHead ps) (λ s h. h.1) xs (All-map deleted_mark (IsPut ps) xs all) in
+    record {
+      puts_writes = parts.0;
+      puts_own = first.0;
+      puts_new = heads N second.0;
+      puts_dead = heads dead second.1;
+      covers = λ q. omega (
+        arith,
+        ap (λ l. cover l q) (spans_are (ws ++ links) ∙ map-append byte_span ws links),
+        cover-append (map byte_span ws) (map byte_span links) q,
+        ap (λ l. cover l q) are.sorts,
+        cover-sorted (map byte_span (wanted own used freed dead es)) q,
+        wanted_cover own used freed dead es q,
+      );
+    }
+
+-- some spans, and those of them that pass a test
+split_cover : (p : Span → Bool) (xs : List Span) (q : ℕ) → cover (filter p xs) q + cover (filter (λ x. not (p x)) xs) q ≡ cover xs q
+split_cover p [] q = refl
+split_cover p (x ∷ xs) q = elim (cases_Bool (p x)) [ inl e ↦ rw e (omega (arith, split_cover p xs q)) | inr e ↦ rw e (omega (arith, split_cover p xs q)) ]
+
+-- what holds of those that pass, and, with their places, of the others
+all_by : (P : Span → Type 0) (p : Span → Bool) (zs xs : List Span) → AllByRecursion P (filter p xs) → AllByRecursion (λ (e : Span). (q : ℕ) → between e.at (end_of e) q ≤ cover zs q) (filter (λ x. not (p x)) xs) → AllByRecursion (λ (s : Span). 32 ≤ s.len) xs
+    → ((e : Span) → p e ≡ false → 32 ≤ e.len → ((q : ℕ) → between e.at (end_of e) q ≤ cover zs q) → P e) → AllByRecursion P xs
+all_by P p zs [] a b long f = tt
+all_by P p zs (x ∷ xs) a b long f = elim (cases_Bool (p x)) [
+  | inl e ↦ (let here = rw e at a in here.0, all_by P p zs xs (let here = rw e at a in here.1) (rw e at b) long.1 f)
+  | inr e ↦ (f x e long.0 (let here = rw e at b in here.0), all_by P p zs xs (rw e at a) (let here = rw e at b in here.1) long.1 f)
+]
+
+-- The directory of a plan: what becomes of it, and what the plan's pieces are.
+pub record WritesDir (x : Index) (was : Option DirItem) (c : DirectoryChange) (front behind : List Entry) (space : Space) (n top : ℕ) (freed dead es : List Span) (pieces : List Piece) : Type 0 where
+  pub place : IsPlace x was (directory_size (front ++ behind)) (sum (map entry_len behind)) space c
+  pub parts : AreParts n top (used_by c) freed dead (kept_of c was) es
+  pub whole : AreWhole c front behind
+  pub own : OwnMarks top was c front behind
+  pub once : (q : ℕ) → cover (map piece_span pieces) q ≤ 1
+  pub written : AreWritten pieces (writes_by c (front ++ behind)) (marks_by was c front behind) (deleted_after (used_by c) freed es) dead es
+  pub few : length (front ++ behind) ≤ 2 ^ 20
+
+pub pointer_of : (q : ℕ) (c : DirectoryChange) → cover (pointers_of c) q ≤ between 84 92 q
+pointer_of q Kept = omega arith
+pointer_of q Patched = omega arith
+pointer_of q (New d) = omega arith
+
+pub pointer_none : (q : ℕ) (c : DirectoryChange) → 92 ≤ q → cover (pointers_of c) q ≡ 0
+pointer_none q c h = omega (arith, pointer_of q c, at_place, h)
+
+dir_within : (c : DirectoryChange) (old : Option DirItem) (q : ℕ) → cover (written_dir c old) q ≤ cover (used_by c) q + cover (kept_of c old) q
+dir_within Kept old q = omega arith
+dir_within Patched old q = omega arith
+dir_within (New d) old q = omega arith
+
+-- where a directory that is set lies
+set_spans : (make : Span → Directory) (c : DirectoryChange) (was : Option DirItem) → ((d : DirItem) → extent (make (directory_span d)).segment ≡ directory_span d)
+    → map extent (option_to_list (option_map (λ (d : Directory). d.segment) (set_new (directory_set make c was)))) ≡ written_dir c was
+set_spans make Kept was own = refl
+set_spans make Patched None own = refl
+set_spans make Patched (Some d) own = ap (λ (s : Span). s ∷ []) (own d)
+set_spans make (New d) was own = ap (λ (s : Span). s ∷ []) (own d)
+
+heads_fewer : (p : Span → Bool) (xs : List Span) (q : ℕ) → cover (map head (filter p xs)) q ≤ cover (map head xs) q
+heads_fewer p [] q = omega arith
+heads_fewer p (x ∷ xs) q = elim (cases_Bool (p x)) [ inl e ↦ rw e (omega (arith, heads_fewer p xs q)) | inr e ↦ rw e (omega (arith, heads_fewer p xs q)) ]
+
+module _ {x : Index} {was : Option DirItem} {c : DirectoryChange} {front behind : List Entry} {space : Space} {n top : ℕ} {freed dead es : List Span} {pieces : List Piece} (w : WritesDir x was c front behind space n top freed dead es pieces) where
+  abbrev after : List Span
+  after = deleted_after (used_by c) freed es
+
+  -- the headers lie in DELETED extents and dead spans
+  heads_in : (q : ℕ) → (cover (map head (filter (is_new es) after)) q ≤ cover (filter (is_new es) after) q) × (cover (map head dead) q ≤ cover dead q)
+  heads_in q = (heads_within (filter (is_new es) after) q (All-filter _ (is_new es) after (is_32 top after w.parts.after_long)), heads_within dead q (is_32 top dead w.parts.dead_long))
+
+  -- of the file header nothing but the pointer is written
+  pub header_clear : (q : ℕ) → q < 112 → cover (pointers_of c) q ≡ 0 → byte_of pieces q ≡ None
+  header_clear q low none = not_put pieces q (omega (
+    arith,
+    w.written.covers q,
+    w.own.covers q,
+    heads_in q,
+    cover-fewer (is_new es) after q,
+    none,
+    dir_within c was q,
+    low_none top q (used_by c) w.parts.used_long low,
+    low_none top q (kept_of c was) w.parts.kept_long low,
+    low_none top q dead w.parts.dead_long low,
+    low_none top q after w.parts.after_long low,
+  ))
+
+  -- the DELETED extents and the dead spans have no place in common with what is written of the directory
+  dir_apart : (q : ℕ) → cover (map byte_span (writes_by c (front ++ behind))) q + cover (map byte_span (marks_by was c front behind)) q + (cover after q + cover dead q) ≤ 1
+  dir_apart q = elim (cases_lt q 112) [
+    | inl h ↦ omega (arith, at_place, w.own.covers q, pointer_of q c, dir_within c was q, low_none top q _ w.parts.used_long h, low_none top q _ w.parts.kept_long h, low_none top q dead w.parts.dead_long h, low_none top q after w.parts.after_long h)
+    | inr h ↦ omega (arith, w.own.covers q, pointer_none q c (omega (arith, h)), dir_within c was q, w.parts.once q)
+  ]
+
+  -- each DELETED extent has its header: it was written, or it stood there and nothing is written into it
+  pub deleted_put : AllByRecursion (PutsDeleted es pieces) after
+  deleted_put =
+      let O : List Span = filter (λ e. not (is_new es e)) after in
+      let stood : (e : Span) → is_new es e ≡ false → 32 ≤ e.len → ((q : ℕ) → between e.at (end_of e) q ≤ cover O q) → PutsDeleted es pieces e = λ e old long h. inl (
+        elim (cases_Bool (list_any (same_span e) es)) [ inl k ↦ k | inr k ↦ absurd (let clash = rw k at old in cc (clash)) ],
+        λ q low high. not_put pieces q (omega (arith, w.written.covers q, heads_in q, dir_apart q, split_cover (is_new es) after q, h q, at_place, low, high, long)),
+      ) in
+      all_by (PutsDeleted es pieces) (is_new es) O after (All-weaken (PutsHead pieces) (PutsDeleted es pieces) (λ e h. inr h) _ w.written.puts_new) (covers_own O) (is_32 top after w.parts.after_long) stood
+
+  -- the pieces lie where a command may write
+  pub dir_writable : (gone : List Span) (make : Span → Directory) (rest : List Segment) (q b : ℕ) → ((d : DirItem) → extent (make (directory_span d)).segment ≡ directory_span d) → cover (map head gone) q ≡ cover (map head dead) q → byte_of pieces q ≡ Some b
+      → 1 ≤ cover (record { at = 84; len = 16 } ∷ record { at = 104; len = 8 } ∷ (map extent (option_to_list (option_map (λ (d : Directory). d.segment) (set_new (directory_set make c was))) ++ rest) ++ map head (after ++ gone))) q
+  dir_writable gone make rest q b own same put =
+      let D : List Segment = option_to_list (option_map (λ (d : Directory). d.segment) (set_new (directory_set make c was))) in
+      omega (
+        arith,
+        put_within pieces q b put,
+        w.written.covers q,
+        w.own.covers q,
+        pointer_of q c,
+        at_place,
+        heads_fewer (is_new es) after q,
+        same,
+        cover-append (map extent (D ++ rest)) (map head (after ++ gone)) q,
+        ap (λ l. cover l q) (map-append extent D rest),
+        cover-append (map extent D) (map extent rest) q,
+        ap (λ l. cover l q) (set_spans make c was own),
+        ap (λ l. cover l q) (map-append head after gone),
+        cover-append (map head after) (map head gone) q,
+      )
+
+pub total_is : (es : List Entry) → total entry_len es ≡ sum (map entry_len es)
+total_is [] = refl
+total_is (e ∷ es) = ap (λ n. entry_len e + n) (total_is es) ∙ sym (sum_by-cons (λ n. n) (entry_len e) (map entry_len es))
+
+-- how long a new one is
+new_room : (x : Index) (old : Option DirItem) (size range : ℕ) (space : Space) (d : DirItem) → IsPlace x old size range space (New d) → 32 + size ≤ d.span.len
+new_room x old size range space d place = omega (arith, (fit_place space (need_of size) (record { span = directory_span d; space = use_span space (directory_span d) }) place.1).1)
+
+-- a directory in a span has its extent
+long_enough : (n : ℕ) → 32 ≤ n → 32 + (n - 32) ≡ n
+long_enough n h = omega arith
+
+pub directory_in_own : (es : List Entry) (d : DirItem) → extent (directory_in (directory_span d) es).segment ≡ directory_span d
+directory_in_own es d = ap (λ (n : ℕ). let s : Span = record { at = d.span.at; len = n } in s) (long_enough d.span.len d.long)
+
+-- What a pointer of the file header says of a directory.
+abbrev pub PointsTo : ℤ → Option Directory → Type 0
+PointsTo z None = ⊤
+PointsTo z (Some d) = (z ≡ pos d.segment.at) × (d.segment.id ≡ directory_id)
+
+in_own : (image : List ℕ) (z : ℤ) (d : Directory) → in_segment image directory_id z directory ≡ Some d → PointsTo z (Some d)
+unfolding in_segment IsItsOwn
+in_own image z d found =
+    let s = bind_some (sound_segment image directory_id z) (λ s. directory s (data_in_segment image s)) d found in
+    let sound : IsSound image directory_id z s.0 = is_sound image directory_id z s.0 s.1 in
+    let same : d.segment ≡ s.0 = directory_own s.0 (data_in_segment image s.0) d s.2 in
+    (sound.place ∙ ap (λ (t : Segment). pos t.at) (sym same), ap (λ (t : Segment). t.id) same ∙ bytes_same s.0.id directory_id (both_true _ _ sound.test).0)
+
+on_found : (image : List ℕ) (z : ℤ) (f : Option Directory) (o : Option Directory) → in_segment image directory_id z directory ≡ f → f >>= (λ x. Some (Some x)) ≡ Some o → PointsTo z o
+on_found image z f None is e = tt
+on_found image z f (Some d) is e =
+    let x = bind_some f (λ x. Some (Some x)) (Some d) e in
+    let its : f ≡ Some d = cc (x.1, x.2) in
+    in_own image z d (is ∙ its)
+
+pub points_to : (image : List ℕ) (z : ℤ) (o : Option Directory) → none_or z (in_segment image directory_id z directory) ≡ Some o → PointsTo z o
+points_to image (pos zero) None e = tt
+points_to image (pos zero) (Some d) e = cc
+points_to image (pos (suc n)) o e = on_found image (pos (suc n)) _ o refl e
+points_to image (negsuc n) o e = on_found image (negsuc n) _ o refl e
+
+-- the marks of a directory that is changed in place are three pieces
+some_among : (pieces : List Piece) (place : ℕ) (bytes : List ℕ) → AllByRecursion (IsPut pieces) (some_mark place bytes) → (bytes ≡ []) ⊎ IsAmong (record { place = place; bytes = bytes }) pieces
+some_among pieces place [] all = inl refl
+some_among pieces place (b ∷ bytes) all = inr all.0.0
+
+pub patch_put : {x : Index} (d : DirItem) (front behind : List Entry) {space : Space} {n top : ℕ} {freed dead es : List Span} {pieces : List Piece} → WritesDir x (Some d) Patched front behind space n top freed dead es pieces
+    → PatchPuts 128 entry_len entry_bytes pieces (directory_in (directory_span d) (front ++ behind)) front behind
+patch_put d front behind {freed = freed} {es = es} {pieces = pieces} w =
+    let bytes : List ℕ = flat_map entry_bytes behind in
+    let room : 32 + directory_size (front ++ behind) ≤ d.span.len = leb-true _ _ (and_parts _ _ w.place).0 in
+    let used : directory_size (front ++ behind) ≡ 128 + total entry_len (front ++ behind) = omega (arith, total_is (front ++ behind)) in
+    let from : d.span.at + 32 + directory_size front ≡ d.span.at + 32 + 128 + total entry_len front = omega (arith, total_is front) in
+    let put = w.written.puts_own in
+    entries_patch pieces (directory_in (directory_span d) (front ++ behind)) front behind w.whole.0 (omega (arith, room, size_of_both front behind, total_is front, total_is behind)) (record {
+      once = w.once;
+      used = subst (λ (k : ℕ). IsAmong (record { place = d.span.at + 24; bytes = i64_bytes (pos k) }) pieces) used put.0.0;
+      count = put.1.0.0;
+      range = subst (λ (k : ℕ). (bytes ≡ []) ⊎ IsAmong (record { place = k; bytes = bytes }) pieces) from (some_among pieces (d.span.at + 32 + directory_size front) bytes put.1.1);
+      alone = λ q low high. omega (arith, at_place, w.written.covers q, some_cover (d.span.at + 32 + directory_size front) bytes q, from, heads_in w q, cover-fewer (is_new es) (deleted_after [] freed es) q, w.parts.once q, low, high, d.long);
+    })
+
+some_span : (a b : Span) (o p : Option Span) → o ≡ Some a → p ≡ Some b → o ≡ p → a ≡ b
+some_span a b o p e f g = cc (e, f, g)
+
+-- the length of a directory's data without padding
+length-directory_data : (es : List Entry) → AllByRecursion IsEntry es → length (directory_data es 0) ≡ 128 + total entry_len es
+length-directory_data es all = omega (arith, length-append (flat_map entry_bytes es) [], length-written entry entry_len entry_bytes IsEntry entry_codec es all)
+
+-- A directory as the machine asks for it: it is changed in place, or it is new.
+pub dir_listed : {x : Index} (was : Option DirItem) (c : DirectoryChange) (front behind before : List Entry) {space : Space} {n top : ℕ} {freed dead es : List Span} {pieces : List Piece} (z : ℤ) (own : Option Directory) (ts ts' : List FormatTile)
+    → WritesDir x was c front behind space n top freed dead es pieces → map (λ (t : FormatTile). t.entry) ts ≡ front ++ before → map (λ (t : FormatTile). t.entry) ts' ≡ front ++ behind → lies_at was ≡ extent_of own → PointsTo z own
+    → ListsTiles pieces (directory_set (λ s. directory_in s (front ++ behind)) c was) own ts ts'
+dir_listed was Kept front behind before z own ts ts' w were are lies points = absurd w.place
+dir_listed None Patched front behind before z own ts ts' w were are lies points = absurd (let clash : false ≡ true = w.place in cc (clash))
+dir_listed (Some d) Patched front behind before z None ts ts' w were are lies points = cc (lies)
+dir_listed (Some d) Patched front behind before {pieces = pieces} z (Some own) ts ts' w were are lies points =
+    let put = patch_put d front behind w in
+    let room : 32 + directory_size (front ++ behind) ≤ d.span.len = leb-true _ _ (and_parts _ _ w.place).0 in
+    let same : directory_span d ≡ extent own.segment = some_span (directory_span d) (extent own.segment) (lies_at (Some d)) (extent_of (Some own)) refl refl lies in
+    inr (
+      omega (arith, ap (length {A = Entry}) are, w.few),
+      rw (were, are) (record {
+        at = ap (λ (s : Span). s.at) same;
+        id = sym points.1;
+        allocated = omega (arith, ap (λ (s : Span). s.len) same);
+        used = refl;
+        count = refl;
+        room = omega (arith, room, total_is (front ++ behind));
+        front = front;
+        before = before;
+        middle = behind;
+        back = [];
+        were = ap (λ l. front ++ l) (sym (append-nil before));
+        are = ap (λ l. front ++ l) (sym (append-nil behind));
+        stay = inl refl;
+        entries = w.whole.0;
+        puts_used = put.puts_used;
+        puts_count = put.puts_count;
+        puts = put.puts;
+        clear_head = put.clear_head;
+        clear_front = put.clear_front;
+        clear_back = put.clear_back;
+      }),
+    )
+dir_listed {x = x} was (New d) front behind before {space = space} {pieces = pieces} z own ts ts' w were are lies points =
+    let long : 32 + directory_size (front ++ behind) ≤ d.span.len = new_room x was (directory_size (front ++ behind)) (sum (map entry_len behind)) space d w.place in
+    let used : directory_size (front ++ behind) ≡ 128 + total entry_len (front ++ behind) = omega (arith, total_is (front ++ behind)) in
+    inl (rw are (record {
+      id = refl;
+      used = sym (length-directory_data (front ++ behind) w.whole.0);
+      room = omega (arith, long);
+      count = refl;
+      few = w.few;
+      entries = w.whole.0;
+      padding = d.span.len - 32 - directory_size (front ++ behind);
+      puts = record {
+        head = subst (λ (k : ℕ). Puts pieces d.span.at (header_bytes (record { at = d.span.at; id = directory_id; allocated = d.span.len - 32; used = k }))) used w.written.puts_own.1.0.1;
+        contents = w.written.puts_writes.0.1;
+        whole = w.whole.1;
+      };
+    }))
+
+-- the pointer of the file header
+pub dir_pointer : {x : Index} (was : Option DirItem) (c : DirectoryChange) (front behind : List Entry) {space : Space} {n top : ℕ} {freed dead es : List Span} {pieces : List Piece} (z : ℤ) (own : Option Directory)
+    → WritesDir x was c front behind space n top freed dead es pieces → lies_at was ≡ extent_of own → PointsTo z own → PutsPointer (λ (d : Directory). d.segment) pieces 84 z (directory_set (λ s. directory_in s (front ++ behind)) c was)
+dir_pointer was Kept front behind z own w lies points = absurd w.place
+dir_pointer None Patched front behind z own w lies points = absurd (let clash : false ≡ true = w.place in cc (clash))
+dir_pointer (Some d) Patched front behind z None w lies points = cc (lies)
+dir_pointer (Some d) Patched front behind z (Some own) w lies points =
+    let same : directory_span d ≡ extent own.segment = some_span (directory_span d) (extent own.segment) (lies_at (Some d)) (extent_of (Some own)) refl refl lies in
+    (inr (λ q low high. header_clear w q (omega (arith, high)) refl, points.0 ∙ ap (λ (s : Span). pos s.at) (sym same)), omega (arith, w.parts.kept_long.0.far), omega (arith, d.ends))
+dir_pointer was (New d) front behind z own w lies points = (inl w.written.puts_own.0.1, omega (arith, w.parts.used_long.0.far), omega (arith, d.ends))

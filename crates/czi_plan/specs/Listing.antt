@@ -1,0 +1,73 @@
+-- What becomes of a directory that lists other items, and what a plan has of it.
+use Rattle.std.specs.Prelude.{◌≡◌, ⊤, ℕ, ◌+◌, ◌-◌, ◌≤◌, List, [], ◌∷◌, ◌++◌, length, map, max, sum, flat_map, Bool, true, false, ◌&&◌, ◌||◌, nat_le, nat_lt, Option, Some, None, Ok}
+use Rattle.std.specs.List.{AllByRecursion}
+use Rattle.czi_format.specs.Entry.{Entry, IsEntry, entry_bytes, entry_len}
+use Rattle.czi_format.specs.Space.{Space, fit, use_span}
+use Rattle.czi_format.specs.Segment.{directory_id}
+use Rattle.czi_image.specs.Applied.{walks_on}
+use Rattle.czi_image.specs.Spans.{directory_span}
+use Rattle.czi_image.specs.declared.change.DirectoryChange.{DirectoryChange}
+use Rattle.czi_image.specs.declared.change.DirectoryChange.TheVariants.{Kept, Patched, New}
+use Rattle.czi_image.specs.declared.index.Index.{Index}
+use Rattle.czi_image.specs.declared.types.DirItem.{DirItem}
+use Rattle.czi_links.specs.Record.{Bytes}
+use Rattle.czi_region.specs.Pieces.{IsPiece, bytes_of}
+use Rattle.czi_region.specs.declared.block.Piece.{Piece as Range}
+use Rattle.czi_region.specs.declared.block.Region.{Region}
+use Rattle.czi_plan.specs.Directory.{data_in, directory_size, need_of}
+use Rattle.czi_plan.specs.Marks.{head_mark, patch_marks, pointer_mark}
+use Rattle.czi_plan.specs.declared.plan.EditPlan.{EditPlan}
+
+-- it has room for data of a size
+abbrev pub has_room : DirItem → ℕ → Type 0
+has_room d size = 32 + size ≤ d.span.len
+
+-- it is changed in place where it has that, and the range that is written isn't long
+abbrev pub fits_in_place : Option DirItem → ℕ → ℕ → Bool
+fits_in_place None size range = false
+fits_in_place (Some d) size range = nat_le (32 + size) d.span.len && nat_le range 65536
+
+-- it is changed in place, or there is a new one where its need fits
+abbrev pub IsPlace : Index → Option DirItem → ℕ → ℕ → Space → DirectoryChange → Type 0
+IsPlace x old size range space Kept = ⊥
+IsPlace x old size range space Patched = fits_in_place old size range ≡ true
+IsPlace x old size range space (New d) = (fits_in_place old size range ≡ false) × (fit space (need_of size) ≡ Ok (record { span = directory_span d; space = use_span space (directory_span d) }))
+    × (d.walked ≡ (nat_lt d.span.at x.length || walks_on x))
+
+-- there is room for the data of a new one
+abbrev pub HasRoomFor : DirectoryChange → ℕ → Type 0
+HasRoomFor Kept room = ⊤
+HasRoomFor Patched room = ⊤
+HasRoomFor (New d) room = d.span.len - 32 ≤ room
+
+-- what it needs to be planned
+abbrev pub IsReady : Option DirItem → ℕ → ℕ → DirectoryChange → Type 0
+IsReady old size room Kept = ⊤
+IsReady None size room Patched = ⊥
+IsReady (Some d) size room Patched = has_room d size
+IsReady old size room (New d) = has_room d size × (d.span.len - 32 ≤ room)
+
+-- The marks of a directory that lies where it lay: the entries behind are written.
+pub record Patches (d : DirItem) (before behind : List Entry) (old new : List Bytes) : Type 0 where
+  pub marks : new ≡ old ++ patch_marks d.span.at (directory_size (before ++ behind)) (length (before ++ behind)) (directory_size before) (flat_map entry_bytes behind)
+  pub entries : AllByRecursion IsEntry behind
+  pub size : length (flat_map entry_bytes behind) ≡ sum (map entry_len behind)
+
+-- A new directory: one write of its data, its header, and the pointer to it.
+pub record Writes (d : DirItem) (es : List Entry) (region : Region) (old new : EditPlan) (before after : List Bytes) : Type 0 where
+  pub piece : Range
+  pub staged : IsPiece region piece
+  pub long : piece.len ≡ d.span.len - 32
+  pub bytes : bytes_of region piece ≡ data_in (d.span.len - 32) es
+  pub entries : AllByRecursion IsEntry es
+  pub writes : new.writes.items ≡ old.writes.items ++ (d.span.at + 32, piece) ∷ []
+  pub used : new.used.items ≡ old.used.items ++ d.span ∷ []
+  pub end : new.length ≡ max old.length (d.span.at + d.span.len)
+  pub others : new ≡ record old { writes = new.writes; used = new.used; length = new.length }
+  pub marks : after ≡ before ++ pointer_mark 84 d.span.at ∷ head_mark (record { at = d.span.at; id = directory_id; allocated = d.span.len - 32; used = directory_size es }) ∷ []
+
+abbrev pub Lists : Option DirItem → DirectoryChange → (before behind : List Entry) → Region → (old new : EditPlan) → (marks_before marks_after : List Bytes) → Type 0
+Lists was Kept before behind region old new marks more = (new ≡ old) × (more ≡ marks)
+Lists None Patched before behind region old new marks more = ⊥
+Lists (Some d) Patched before behind region old new marks more = (new ≡ old) × Patches d before behind marks more
+Lists was (New d) before behind region old new marks more = Writes d (before ++ behind) region old new marks more
