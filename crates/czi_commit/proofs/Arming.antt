@@ -1,5 +1,5 @@
 -- What the files stand for while a journal is armed.
-use Rattle.std.proofs.Common.{◌≡◌, ⊎_elim, ℕ, ◌≤◌, Bool, true, false, Option, None, Some, List, [], ◌∷◌, length, take, drop, get_or, IsTrue, refl, sym, ◌∙◌, ap, subst, arith}
+use Rattle.std.proofs.Common.{◌≡◌, ⊎_elim, inr, ℕ, ◌≤◌, Bool, true, false, Option, None, Some, List, [], ◌∷◌, length, take, drop, get_or, IsTrue, refl, sym, ◌∙◌, ap, subst, arith}
 use Rattle.std.specs.Prelude.{option_map}
 use Rattle.std.specs.Option.{ForSome}
 use Rattle.std.proofs.lemmas.Option.{same_Some}
@@ -13,9 +13,10 @@ use Rattle.czi_links.specs.Reading.{Reading, Void}
 use Rattle.czi_journal.specs.declared.journal.Slot.{Slot}
 use Rattle.czi_journal.specs.Journals.{slot_of, CountsWith, IsVoidOr}
 use Rattle.czi_journal.proofs.Slots.{number_or_not}
+use Rattle.czi_vault.specs.Alone.{Alone, HasBytes, HasBytesBut100, KeepsNow}
 use Rattle.czi_vault.specs.Recovered.{View, Stands, StandsNow, StandsFor, Makes, applied}
 use Rattle.czi_opening.specs.Answers.{StandsSo}
-use Rattle.czi_commit.proofs.Standing.{StandsStill}
+use Rattle.czi_commit.proofs.Standing.{KeepsStill}
 use Rattle.czi_commit.specs.Ready.{IsReady}
 
 pub armed_counts : (armed : Bool) (s : Slot) (journal : List ℕ) → IsTrue armed → StandsSo armed s journal → CountsWith s journal
@@ -46,11 +47,11 @@ zero_over x long zero = ext_get_or 0 (overwritten 100 (0 ∷ []) x) x (length-ov
 pub applied_none : (file : SlotHead) (x : List ℕ) → length x ≡ file.length → 112 ≤ file.length → get_or x 100 0 ≡ 0 → applied (record_of file []) x ≡ x
 applied_none file x len long zero = ap (overwritten 100 (0 ∷ [])) (take_all file.length x (omega (arith, len))) ∙ zero_over x (omega (arith, len, long)) zero
 
-module _ (all : Devices) (file : SlotHead) (least : 112 ≤ file.length) (ready : IsReady file all.image) (view : View) (stands : StandsNow view all)
+module _ (all : Devices) (file : SlotHead) (least : 112 ≤ file.length) (ready : IsReady file all.image) (view : View) (keeps : KeepsNow view all)
     (reads_i : Left all.image.durable all.image.seen) (reads_j : Left all.journal.durable all.journal.seen) (void : slot_of all.journal.seen ≡ Void) where
   agrees : SameOutside (Covers view.holes) view.bytes all.image.seen
   agrees =
-      let s : Stands view all.image.seen all.journal.seen = stands all.image.seen all.journal.seen all.said (record { image_is = reads_i; journal_is = reads_j; said_is = refl }) in
+      let s : Stands view all.image.seen all.journal.seen = (keeps all.image.seen all.journal.seen all.said (record { image_is = reads_i; journal_is = reads_j; said_is = refl })).0 in
       let e : s.bytes ≡ all.image.seen = subst (λ (read : Reading). StandsFor read all.image.seen s.bytes) void s.recovered in
       subst (SameOutside (Covers view.holes) view.bytes) e s.agrees
 
@@ -62,11 +63,25 @@ module _ (all : Devices) (file : SlotHead) (least : 112 ≤ file.length) (ready 
       (λ v. record { bytes = all.image.seen; recovered = subst (λ (read : Reading). StandsFor read all.image.seen all.image.seen) (sym v) refl; agrees = agrees })
       (λ h. record { bytes = all.image.seen; recovered = subst (λ (read : Reading). StandsFor read all.image.seen all.image.seen) (sym h) makes_itself; agrees = agrees })
 
-  pub while_armed : (image journal said : List ℕ) → Left all.image.durable image × IsVoidOr (record_of file []) journal × (said ≡ all.said) → StandsStill view all.said image journal said
+  pub while_armed : (image journal said : List ℕ) → Left all.image.durable image × IsVoidOr (record_of file []) journal × (said ≡ all.said) → KeepsStill view all.said image journal said
   while_armed i j o p = (
-    subst (λ (x : List ℕ). Stands view x j) (sym (left_settled all.image.seen i (subst (λ d. Left d i) (ap (λ (d : Disk). d.durable) ready.rest) p.0))) (armed_stands j p.1),
+    (
+      subst (λ (x : List ℕ). Stands view x j) (sym (left_settled all.image.seen i (subst (λ d. Left d i) (ap (λ (d : Disk). d.durable) ready.rest) p.0))) (armed_stands j p.1),
+      (keeps i all.journal.seen o (record { image_is = p.0; journal_is = reads_j; said_is = p.2 })).1,
+    ),
     p.2,
   )
 
 pub is_ready : (file : SlotHead) (image : Disk) → IsAtRest image → length image.seen ≡ file.length → take 16 (drop 64 image.seen) ≡ file.guid → get_or image.seen 100 0 ≡ 0 → IsReady file image
 is_ready file image rest long guid ready = record { rest = rest; long = long; guid = guid; ready = ready }
+
+-- an image that is on the disk and has the view's bytes keeps it
+pub begins_keeping : (all : Devices) (view : View) → IsAtRest all.image → StandsNow view all → HasBytes view all.image.seen → KeepsNow view all
+begins_keeping all view rest stands has i j o l = (
+  stands i j o l,
+  inr (subst (HasBytes view) (sym (left_settled all.image.seen i (subst (λ d. Left d i) (ap (λ (d : Disk). d.durable) rest) l.image_is))) has),
+)
+
+-- read alone it has them, where its byte 100 is 0
+pub has_alone : (view : View) (image : List ℕ) → Alone view image → get_or image 100 0 ≡ 0 → HasBytesBut100 view image
+has_alone view image alone zero = ⊎_elim (λ pending. absurd (pending zero)) (λ has. record { long = has.long; each = λ k lt out not. has.each k lt out }) alone

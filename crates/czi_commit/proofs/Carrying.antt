@@ -11,40 +11,41 @@ use Rattle.czi_rig.proofs.Known.{known_file}
 use Rattle.czi_rig.proofs.Runs.{joined, started, weaker}
 use Rattle.czi_journal.specs.declared.journal.Slot.{Slot}
 use Rattle.czi_journal.specs.Journals.{CountsWith}
-use Rattle.czi_vault.specs.Recovered.{View, StandsNow, StandsOr}
+use Rattle.czi_vault.specs.Alone.{KeepsNow, KeepsOr}
+use Rattle.czi_vault.specs.Recovered.{View}
 use Rattle.czi_commit.specs.Ready.{JournalCounts}
-use Rattle.czi_commit.proofs.Standing.{StandsStill, stands_after}
+use Rattle.czi_commit.proofs.Standing.{KeepsStill, keeps_after}
 
 pub on_ok : {T E : Type 0} {P Q : Type 0} (r : Result T E) → (P → Q) → OnOk r P → OnOk r Q
 on_ok (Ok v) f h = f h
 on_ok (Err e) f h = tt
 
--- the files stood for the view from first to now; this is known now
+-- the files stood for the view from first to now, and so did the image alone; this is known now
 pub record Course {D : Type 0} (rig : Ghosts D) (first now : D) (bytes : List ℕ) (view : View) (here : Devices) : Type 0 where
   pub known : devices (rig.state now) ≡ Some here
   pub said : here.said ≡ bytes
-  pub stands : StandsNow view here
-  pub moments : Throughout rig first now (StandsStill view bytes)
+  pub stands : KeepsNow view here
+  pub moments : Throughout rig first now (KeepsStill view bytes)
 
 abbrev pub NewOr : View → List ℕ → List ℕ → Instant
-NewOr view new bytes image journal said = StandsOr view new image journal × (said ≡ bytes)
+NewOr view new bytes image journal said = KeepsOr view new image journal × (said ≡ bytes)
 
 module _ {D : Type 0} (rig : Ghosts D) (counts : CountsNow rig) (only : OnlyNow rig) where
-  pub course_begins : (first : D) (all : Devices) (view : View) → devices (rig.state first) ≡ Some all → StandsNow view all → Course rig first first all.said view all
-  course_begins first all view is stands = record { known = is; said = refl; stands = stands; moments = started rig first (StandsStill view all.said) }
+  pub course_begins : (first : D) (all : Devices) (view : View) → devices (rig.state first) ≡ Some all → KeepsNow view all → Course rig first first all.said view all
+  course_begins first all view is stands = record { known = is; said = refl; stands = stands; moments = started rig first (KeepsStill view all.said) }
 
   -- a further step
-  pub course_next : {first old new : D} {bytes : List ℕ} {view : View} {before : Devices} (now : Devices) → Course rig first old bytes view before → Throughout rig old new (StandsStill view before.said)
+  pub course_next : {first old new : D} {bytes : List ℕ} {view : View} {before : Devices} (now : Devices) → Course rig first old bytes view before → Throughout rig old new (KeepsStill view before.said)
       → devices (rig.state new) ≡ Some now → now.said ≡ before.said → Course rig first new bytes view now
   course_next {old = old} {new = new} {view = view} {before = before} now k moments is said = record {
     known = is;
     said = said ∙ k.said;
-    stands = stands_after rig counts only old new before now view k.known k.stands moments is;
+    stands = keeps_after rig counts only old new before now view k.known k.stands moments is;
     moments = joined rig k.moments (weaker rig (λ i j o p. (p.0, p.1 ∙ k.said)) moments);
   }
 
   -- one that fails
-  pub course_fails : {first old new : D} {bytes : List ℕ} {view : View} {before : Devices} (made : List ℕ) → Course rig first old bytes view before → Throughout rig old new (StandsStill view before.said)
+  pub course_fails : {first old new : D} {bytes : List ℕ} {view : View} {before : Devices} (made : List ℕ) → Course rig first old bytes view before → Throughout rig old new (KeepsStill view before.said)
       → Throughout rig first new (NewOr view made bytes)
   course_fails made k moments = joined rig (weaker rig (λ i j o p. (inl p.0, p.1)) k.moments) (weaker rig (λ i j o p. (inl p.0, p.1 ∙ k.said)) moments)
 

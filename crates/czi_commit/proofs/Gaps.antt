@@ -16,7 +16,8 @@ use Rattle.czi_region.specs.declared.block.Region.{Region}
 use Rattle.czi_region.specs.Pieces.{bytes_of}
 use Rattle.czi_vault.specs.Recovered.{View, with_links}
 use Rattle.czi_vault.proofs.Lists.{with_links-push}
-use Rattle.czi_commit.specs.Filled.{AreFree, LeaveGuid, filled, last_end, pieces_in, with_gap, zeros}
+use Rattle.czi_commit.specs.Filled.{AreFree, LeaveHeader, filled, with_gap, zeros}
+use Rattle.czi_plan.specs.Pieces.{last_end, bytes_in}
 
 pub zeros_some : (end place : ℕ) → end < place → zeros end place ≡ record { place = end; bytes = replicate (place - end) 0 } ∷ []
 zeros_some end place lt = rw (lt-ltb end place lt)
@@ -75,7 +76,7 @@ pub last_end-least : (end : ℕ) (ws : List Bytes) → end ≤ last_end end ws
 last_end-least end [] = omega arith
 last_end-least end (w ∷ ws) = omega (arith, last_end-least (max end (end_of w)) ws)
 
--- no write reaches the places before 80
+-- no write reaches the places before 112
 zeros_front : (end place : ℕ) (image : List ℕ) (k : ℕ) → length image ≡ end → k < end → get_or (with_links (zeros end place) image) k 0 ≡ get_or image k 0
 zeros_front end place image k e lt = ⊎_elim
     (λ some. ap (λ (ws : List Bytes). get_or (with_links ws image) k 0) (zeros_some end place some)
@@ -87,13 +88,13 @@ gap_front end w image k e lt before = ap (λ (x : List ℕ). get_or x k 0) (with
     ∙ (overwritten_torn w.place w.bytes (with_links (zeros end w.place) image) (omega (arith, length-zeros end w.place image e))).same k (inl before)
     ∙ zeros_front end w.place image k e lt
 
-filled_front : (end : ℕ) (ws : List Bytes) (image : List ℕ) (k : ℕ) → length image ≡ end → 80 ≤ end → LeaveGuid ws → k < 80 → get_or (with_links (filled end ws) image) k 0 ≡ get_or image k 0
+pub filled_front : (end : ℕ) (ws : List Bytes) (image : List ℕ) (k : ℕ) → length image ≡ end → 112 ≤ end → LeaveHeader ws → k < 112 → get_or (with_links (filled end ws) image) k 0 ≡ get_or image k 0
 filled_front end [] image k e long high lt = refl
 filled_front end (w ∷ ws) image k e long high lt = ap (λ (x : List ℕ). get_or x k 0) (with_links-gap end w (filled (max end (end_of w)) ws) image)
     ∙ filled_front (max end (end_of w)) ws (with_links (with_gap end w) image) k (length-gap end w image e) (omega (arith, long)) high.1 lt
     ∙ gap_front end w image k e (omega (arith, long, lt)) (omega (arith, lt, high.0))
 
-pub guid_filled : (end : ℕ) (ws : List Bytes) (image : List ℕ) → length image ≡ end → 80 ≤ end → LeaveGuid ws → take 16 (drop 64 (with_links (filled end ws) image)) ≡ take 16 (drop 64 image)
+pub guid_filled : (end : ℕ) (ws : List Bytes) (image : List ℕ) → length image ≡ end → 112 ≤ end → LeaveHeader ws → take 16 (drop 64 (with_links (filled end ws) image)) ≡ take 16 (drop 64 image)
 guid_filled end ws image e long high = window 64 16 image (with_links (filled end ws) image) (omega (arith, e, long)) (omega (arith, length-filled end ws image e, last_end-least end ws, long))
     (λ k from to. filled_front end ws image k e long high (omega (arith, to)))
 
@@ -102,9 +103,9 @@ pub next_of : (writes : List (ℕ × Piece)) (i : ℕ) (d : ℕ × Piece) → i 
 next_of writes i d lt = drop-cons writes i d lt ∙ ap (λ (n : ℕ). get_or writes i d ∷ drop n writes) (sym (add-one i))
 
 pub pieces_next : (region : Region) (writes : List (ℕ × Piece)) (i : ℕ) (d : ℕ × Piece) (bytes : List ℕ) → i < length writes → bytes ≡ bytes_of region (get_or writes i d).1
-    → pieces_in region (drop i writes) ≡ record { place = (get_or writes i d).0; bytes = bytes } ∷ pieces_in region (drop (i + 1) writes)
-pieces_next region writes i d bytes lt is = ap (pieces_in region) (next_of writes i d lt)
-    ∙ ap (λ (b : List ℕ). let w : Bytes = record { place = (get_or writes i d).0; bytes = b } in w ∷ pieces_in region (drop (i + 1) writes)) (sym is)
+    → bytes_in region (drop i writes) ≡ record { place = (get_or writes i d).0; bytes = bytes } ∷ bytes_in region (drop (i + 1) writes)
+pieces_next region writes i d bytes lt is = ap (bytes_in region) (next_of writes i d lt)
+    ∙ ap (λ (b : List ℕ). let w : Bytes = record { place = (get_or writes i d).0; bytes = b } in w ∷ bytes_in region (drop (i + 1) writes)) (sym is)
 
 pub free_gap : (view : View) (end : ℕ) (w : Bytes) (ws : List Bytes) → AreFree view (filled end (w ∷ ws)) → AreFree view (with_gap end w) × AreFree view (filled (max end (end_of w)) ws)
 free_gap view end w ws f =

@@ -7,8 +7,10 @@ ghost use Rattle.czi_rig.specs.Passes.{GoesOn};
 ghost use Rattle.czi_rig.specs.Faults.{Faults, device_of, failed_at};
 ghost use Rattle.czi_rig.specs.Moments.{devices, Throughout};
 ghost use Rattle.czi_region.specs.Pieces.{IsPiece};
-ghost use Rattle.czi_vault.specs.Recovered.{with_links, View, Stands, StandsNow};
-ghost use Rattle.czi_commit.specs.Filled.{AreFree, AreNear, filled, last_end, pieces_in, with_gap, zeros};
+ghost use Rattle.czi_vault.specs.Alone.{Keeps, KeepsNow};
+ghost use Rattle.czi_vault.specs.Recovered.{with_links, View};
+ghost use Rattle.czi_commit.specs.Filled.{AreFree, filled, with_gap, zeros};
+ghost use Rattle.czi_plan.specs.Pieces.{AreNear, last_end, bytes_in};
 ghost use Rattle.czi_commit.specs.Ready.{JournalCounts};
 
 use czi_region::{Piece, Region};
@@ -24,8 +26,8 @@ fn pad<R: Rig>(rig: &mut R, end: u64, place: u64) -> Result<(), Failed>
     requires fits { place ≤ 2 ^ 62 }
     requires whole { ForSome (seen_of (R.state rig.old) File.Image) (λ seen. length seen ≡ end) }
 
-    ensures moments { ForSome (devices (R.state rig.old)) (λ all. (view : View) → StandsNow view all → JournalCounts all → AreFree view (zeros end place)
-        → Throughout R.Rig rig.old rig.new (λ image journal said. Stands view image journal × (said ≡ all.said))) }
+    ensures moments { ForSome (devices (R.state rig.old)) (λ all. (view : View) → KeepsNow view all → JournalCounts all → AreFree view (zeros end place)
+        → Throughout R.Rig rig.old rig.new (λ image journal said. Keeps view image journal × (said ≡ all.said))) }
     ensures written { OnOk result (seen_of (R.state rig.new) File.Image ≡ option_map (with_links (zeros end place)) (seen_of (R.state rig.old) File.Image)) }
     ensures other { LeavesOther File.Image (R.state rig.old) (R.state rig.new) }
     ensures goes_on { GoesOn (R.state rig.old) (R.state rig.new) }
@@ -44,8 +46,8 @@ fn put<R: Rig>(rig: &mut R, end: u64, place: u64, bytes: &[u8]) -> Result<(), Fa
     requires fits { place + length bytes.now ≤ 2 ^ 62 }
     requires whole { ForSome (seen_of (R.state rig.old) File.Image) (λ seen. length seen ≡ end) }
 
-    ensures moments { ForSome (devices (R.state rig.old)) (λ all. (view : View) → StandsNow view all → JournalCounts all → AreFree view (with_gap end (record { place = place; bytes = bytes.now }))
-        → Throughout R.Rig rig.old rig.new (λ image journal said. Stands view image journal × (said ≡ all.said))) }
+    ensures moments { ForSome (devices (R.state rig.old)) (λ all. (view : View) → KeepsNow view all → JournalCounts all → AreFree view (with_gap end (record { place = place; bytes = bytes.now }))
+        → Throughout R.Rig rig.old rig.new (λ image journal said. Keeps view image journal × (said ≡ all.said))) }
     ensures written { OnOk result (seen_of (R.state rig.new) File.Image ≡ option_map (with_links (with_gap end (record { place = place; bytes = bytes.now }))) (seen_of (R.state rig.old) File.Image)) }
     ensures other { LeavesOther File.Image (R.state rig.old) (R.state rig.new) }
     ensures goes_on { GoesOn (R.state rig.old) (R.state rig.new) }
@@ -64,14 +66,14 @@ pub(crate) fn fill<R: Rig>(
     writes: &[(u64, Piece)],
 ) -> Result<(), Failed>
     requires pieces { AllByRecursion (λ w. IsPiece region.now w.1) writes.now }
-    requires near { AreNear image_len (pieces_in region.now writes.now) }
-    requires small { last_end image_len (pieces_in region.now writes.now) ≤ 2 ^ 62 }
+    requires near { AreNear image_len (bytes_in region.now writes.now) }
+    requires small { last_end image_len (bytes_in region.now writes.now) ≤ 2 ^ 62 }
     requires whole { ForSome (seen_of (R.state rig.old) File.Image) (λ seen. length seen ≡ image_len) }
 
-    // While the journal counts in all that a crash may leave, and the bytes go where nothing is needed, the files stand for the same.
-    ensures moments { ForSome (devices (R.state rig.old)) (λ all. (view : View) → StandsNow view all → JournalCounts all → AreFree view (filled image_len (pieces_in region.now writes.now))
-        → Throughout R.Rig rig.old rig.new (λ image journal said. Stands view image journal × (said ≡ all.said))) }
-    ensures written { OnOk result (seen_of (R.state rig.new) File.Image ≡ option_map (with_links (filled image_len (pieces_in region.now writes.now))) (seen_of (R.state rig.old) File.Image)) }
+    // While the journal counts in all that a crash may leave, and the bytes go where nothing is needed, the files stand for the same, and so does the image alone.
+    ensures moments { ForSome (devices (R.state rig.old)) (λ all. (view : View) → KeepsNow view all → JournalCounts all → AreFree view (filled image_len (bytes_in region.now writes.now))
+        → Throughout R.Rig rig.old rig.new (λ image journal said. Keeps view image journal × (said ≡ all.said))) }
+    ensures written { OnOk result (seen_of (R.state rig.new) File.Image ≡ option_map (with_links (filled image_len (bytes_in region.now writes.now))) (seen_of (R.state rig.old) File.Image)) }
     ensures other { LeavesOther File.Image (R.state rig.old) (R.state rig.new) }
     ensures goes_on { GoesOn (R.state rig.old) (R.state rig.new) }
     ensures cause { Faults (failed_at result (device_of File.Image)) (R.state rig.old) (R.state rig.new) }

@@ -3,10 +3,9 @@ use Rattle.std.proofs.Common.{◌≡◌, ℕ, ◌≤◌, List, [], ◌∷◌, ma
 use Rattle.std.specs.List.{AllByRecursion}
 use Rattle.std.specs.Option.{ForSome}
 use Rattle.std.proofs.lemmas.Option.{same_Some}
-use Rattle.czi_format.specs.Bytes.{bytes_at}
 use Rattle.czi_format.specs.Layout.{Layout, layout}
 use Rattle.czi_format.specs.Live.{Live, document}
-use Rattle.czi_format.specs.Span.{Span}
+use Rattle.czi_format.specs.Span.{Span, end_of, is_aligned}
 use Rattle.czi_format.proofs.Unique.{reaches_unique}
 use Rattle.czi_format.proofs.Walks.{layout_unique}
 use Rattle.czi_machine.specs.State.{Former, State as MachineState, items_of, item_spans}
@@ -25,15 +24,24 @@ use Rattle.czi_image.specs.declared.index.Index.{Index}
 use Rattle.czi_image.specs.Holds.{Indexes, IsSettled, LiesAs}
 use Rattle.czi_space.specs.State.{AreExtents}
 use Rattle.czi_vault.specs.Recovered.{Recovered}
-use Rattle.czi_plan.proofs.Parts.{free_extents}
+use Rattle.czi_spans.specs.Apart.{AreApart}
 use Rattle.czi_opening.specs.declared.opening.Opened.{Opened}
 use Rattle.czi_opening.specs.Answers.{AreRecovered, IsJournal}
 use Rattle.czi_opening.specs.Course.{From, Stays, StandsForItself}
-use Rattle.czi_engine.specs.Standing.{AreWhole, HasSome, HasState, HoldBack, IsFresh, IsItself, IsOf, IsOpened, StandsOnRig}
+use Rattle.czi_machine.proofs.Leaving.{among_themselves}
+use Rattle.czi_machine.proofs.Tiled.{All-weaken, aligned_is}
+use Rattle.std.specs.Prelude.{IsTrue}
+use Rattle.czi_engine.specs.Standing.{AreWhole, HasSome, HasState, HoldBack, IsFresh, IsItself, IsKept, IsOf, IsOpened, KeepsItems, StandsOnRig, is_among, origin_of}
 use Rattle.czi_engine.specs.Editing.{OpensIn}
 use Rattle.czi_engine.proofs.Keeping.{has_opens}
-use Rattle.czi_engine.proofs.Newly.{opened_stands}
-use Rattle.czi_engine.specs.declared.engine.Engine.{Engine}
+use Rattle.czi_engine.proofs.Openable.{opened_stands}
+use Rattle.czi_engine.specs.declared.engine.EngineState.{EngineState}
+
+free_extents : (from n : ℕ) (es : List Span) → from ≤ n → AreApart from es → AllByRecursion (λ s. IsTrue (is_aligned s)) es → AllByRecursion (λ s. end_of s ≤ n) es → AreExtents from n es
+free_extents from n [] low apart aligned inside = low
+free_extents from n (s ∷ rest) low apart aligned inside =
+    let even = aligned_is s aligned.0 in
+    (apart.0, record { at = even.0; len = even.1; some = apart.1 }, free_extents (end_of s) n rest inside.0 apart.2 aligned.1 inside.1)
 
 -- the extents of an index can be those of a map
 pub extents_of_index : (x : Index) → AreExtents 0 x.length (map span_of x.extents.items)
@@ -65,12 +73,12 @@ module _ {D : Type 0} (rig : Ghosts D) where
       let made : r.bytes ≡ now.image.seen = ap (λ (d : Disk). d.seen) (same_Some (at_rest r.bytes) now.image (sym r.synced.image_is ∙ known_file (rig.state new) Image now is)) in
       subst (λ (b : List ℕ). Recovered now.image.seen now.journal.seen b) made (stays.0.same r.bytes r.recovered)
 
-own_items : (bytes : List ℕ) (spans : List Span) → AllByRecursion (λ (s : Span). bytes_at bytes s.at s.len ≡ bytes_at bytes s.at s.len) spans
-own_items bytes [] = tt
-own_items bytes (s ∷ spans) = (refl, own_items bytes spans)
+-- all items are there at the start
+pub own_items : (bytes : List ℕ) (s : MachineState) → KeepsItems (origin_of bytes s) bytes s.layout
+own_items bytes s = All-weaken (λ x. IsTrue (is_among (item_spans (items_of s.layout)) x)) (IsKept (origin_of bytes s) bytes s.layout) (λ x there. record { there = there; same = refl }) (item_spans (items_of s.layout)) (among_themselves (item_spans (items_of s.layout)))
 
 -- an index of the image, and no edits: the state of the image
-pub fresh_has : (bytes : List ℕ) (x : Engine) (s : MachineState) → Indexes bytes x.index → x.edits.items ≡ [] → IsFresh bytes x.number s → (live : Live) × HasState bytes bytes live s x
+pub fresh_has : (bytes : List ℕ) (x : EngineState) (s : MachineState) → Indexes bytes x.index → x.edits.items ≡ [] → IsFresh bytes x.number s → (live : Live) × HasState (origin_of bytes s) bytes live s x
 fresh_has bytes x s is none f =
     let same : f.live ≡ is.live = reaches_unique bytes f.live is.live f.reaches is.reaches in
     let laid : s.layout ≡ layout (length bytes) is.live is.walk = layout_unique bytes s.layout (layout (length bytes) is.live is.walk) f.layout (is.live, is.walk, is.reaches, is.walks, refl) in (
@@ -81,16 +89,16 @@ fresh_has bytes x s is none f =
         lies = subst (λ (l : Layout). LiesAs l x.index) (sym laid) is.lies;
         edits = subst (λ (fs : List Former). HoldBack (items_of s.layout) fs x.edits.items) (sym f.formers) (subst (λ (es : List (Option CodeSpan)). HoldBack (items_of s.layout) [] es) (sym none) tt);
         number = sym f.number;
-        kept = own_items bytes (item_spans (items_of s.layout));
+        kept = own_items bytes s;
       },
     )
 
 -- there is one
-some_state : (bytes : List ℕ) (x : Engine) → Indexes bytes x.index → x.edits.items ≡ [] → HasSome bytes x
+some_state : (bytes : List ℕ) (x : EngineState) → Indexes bytes x.index → x.edits.items ≡ [] → HasSome bytes x
 some_state bytes x is none =
     let s : MachineState = record { document = document bytes is.live; layout = layout (length bytes) is.live is.walk; formers = []; number = x.number } in
     let has = fresh_has bytes x s is none (record { live = is.live; reaches = is.reaches; document = refl; layout = (is.live, is.walk, is.reaches, is.walks, refl); formers = refl; number = refl }) in
-    record { start = bytes; live = has.0; state = s; has = has.1 }
+    record { start = origin_of bytes s; live = has.0; state = s; has = has.1 }
 
 left_seen : (d : Disk) (left : List ℕ) → IsAtRest d → Left d.durable left → left ≡ d.seen
 left_seen d left rest l = left_settled d.seen left (subst (λ e. Left e left) (ap (λ (x : Disk). x.durable) rest) l)
@@ -102,10 +110,10 @@ stands_for_itself all image journal own = λ i j li lj.
     let of_journal : j ≡ all.journal.seen = left_seen all.journal j journal lj in
     subst (λ (x : List ℕ). Recovered x j all.image.seen) (sym of_image) (subst (λ (x : List ℕ). Recovered all.image.seen x all.image.seen) (sym of_journal) own)
 
-pub indexed : (s : State) (o : Opened) (x : Engine) → IsOf o x → ForSome (seen_of s Image) (λ image. Indexes image o.index) → ForSome (seen_of s Image) (λ image. Indexes image x.index)
+pub indexed : (s : State) (o : Opened) (x : EngineState) → IsOf o x → ForSome (seen_of s Image) (λ image. Indexes image o.index) → ForSome (seen_of s Image) (λ image. Indexes image x.index)
 indexed s o x of shown = λ image is. subst (λ (i : Index). Indexes image i) (sym of.index) (shown image is)
 
-pub begins : (s : State) (o : Opened) (x : Engine) → IsOf o x → ForSome (seen_of s Image) (λ image. Indexes image o.index) → ForSome (known s Journal) (Everywhere (IsJournal o.journal))
+pub begins : (s : State) (o : Opened) (x : EngineState) → IsOf o x → ForSome (seen_of s Image) (λ image. Indexes image o.index) → ForSome (known s Journal) (Everywhere (IsJournal o.journal))
     → ForSome (known s Image) IsAtRest × ForSome (known s Journal) IsAtRest → ForSome (devices s) (λ all. Recovered all.image.seen all.journal.seen all.image.seen) → StandsOnRig s x
 begins s o x of shown stands synced own = record {
   image = synced.0;
@@ -118,7 +126,7 @@ begins s o x of shown stands synced own = record {
   few = subst (λ (es : List (Option CodeSpan)). length es ≤ 32) (sym of.edits) (omega arith);
 }
 
-pub opened_fresh : (s : State) (o : Opened) (x : Engine) → IsOf o x → ForSome (seen_of s Image) (λ image. Indexes image o.index) → IsOpened s x
+pub opened_fresh : (s : State) (o : Opened) (x : EngineState) → IsOf o x → ForSome (seen_of s Image) (λ image. Indexes image o.index) → IsOpened s x
 opened_fresh s o x of shown = λ bytes is t f. fresh_has bytes x t (indexed s o x of shown bytes is) of.edits f
 
 -- what closing asks
@@ -126,6 +134,6 @@ pub closes_for_itself : (all : Devices) → IsItself all.image all.journal → S
 closes_for_itself all own = λ i j o l. own i j l.image_is l.journal_is
 
 -- what stands for the bytes of a fresh state opens as it
-pub fresh_opens : (bytes image journal : List ℕ) (number : ℕ) (s : MachineState) → IsSettled bytes → IsFresh bytes number s → Recovered image journal bytes → OpensIn bytes image journal s
+pub fresh_opens : (bytes image journal : List ℕ) (number : ℕ) (s : MachineState) → IsSettled bytes → IsFresh bytes number s → Recovered image journal bytes → OpensIn (origin_of bytes s) image journal s
 fresh_opens bytes image journal number s settled f is =
-    has_opens bytes bytes image journal f.live s (opened_stands bytes f.live s settled f.reaches f.document f.layout f.formers) (own_items bytes (item_spans (items_of s.layout))) is
+    has_opens (origin_of bytes s) bytes image journal f.live s (opened_stands bytes f.live s settled f.reaches f.document f.layout f.formers) (own_items bytes s) is

@@ -1,138 +1,122 @@
--- A removal on an engine that stands on a rig.
-use Rattle.std.proofs.Common.{◌≡◌, ◌⊎◌, ℕ, ◌+◌, ◌≤◌, List, ◌∷◌, map, length, Option, Some, Ok, option_map, slice_get, true, true≢false, refl, ap, sym, ◌∙◌, subst, arith}
-use Rattle.std.specs.List.{AllByRecursion}
+-- A prepared plan carried out on a rig: what an edit keeps to.
+use Rattle.std.proofs.Common.{◌≡◌, ◌⊎◌, ℕ, zero, suc, ◌≤◌, [], ◌∷◌, List, map, take, length, Option, None, Some, Result, Ok, Err, option_map, true, true≢false, refl, ap, sym, ◌∙◌, subst, arith, inl, inr, ⊎_elim}
+use Rattle.std.specs.Prelude.{IsTrue, IsFalse, slice_index}
 use Rattle.std.specs.Option.{ForSome}
 use Rattle.std.proofs.lemmas.Option.{same_Some}
-use Rattle.czi_commit.specs.Filled.{filled}
-use Rattle.czi_commit.specs.Made.{made, writes_of}
-use Rattle.czi_format.specs.Entry.{Dim}
-use Rattle.czi_format.specs.Live.{Live, Directory}
-use Rattle.czi_image.specs.Removed.{IsWithout}
-use Rattle.czi_image.specs.View.{tile_of}
+use Rattle.std.proofs.lemmas.List.{length-take}
+use Rattle.czi_commit.specs.Filled.{AreFree, filled}
+use Rattle.czi_format.specs.Live.{Live}
+use Rattle.czi_image.specs.Applied.{IsChanged, IsSame}
 use Rattle.czi_image.specs.declared.index.Index.{Index}
-use Rattle.czi_plan.specs.declared.plan.EditPlan.{EditPlan}
-use Rattle.czi_links.specs.Record.{Bytes}
-use Rattle.czi_machine.specs.Change.{out}
-use Rattle.czi_machine.specs.Edit.{remove}
-use Rattle.czi_machine.specs.Machine.{after_edit, one_more}
-use Rattle.czi_machine.specs.Removal.{with_directory}
+use Rattle.czi_machine.specs.Edit.{Refusal, no_key, full}
+use Rattle.czi_machine.specs.Machine.{one_more}
 use Rattle.czi_machine.specs.State.{State as MachineState}
 use Rattle.czi_machine.specs.Turn.{turned}
-use Rattle.czi_plan.specs.Directory.{directory_at}
-use Rattle.czi_plan.specs.Removal.{Removes, left_entries}
-use Rattle.czi_plan.specs.Search.{tile_with}
+use Rattle.czi_num.specs.Span.{span_of}
+use Rattle.czi_num.specs.declared.span.Span.{Span as CodeSpan}
 use Rattle.czi_opening.specs.Answers.{IsJournal}
+use Rattle.czi_plan.specs.Pieces.{writes_of}
+use Rattle.czi_plan.specs.Plan.{extents_after}
+use Rattle.czi_rig.specs.declared.rig.Rig.{Ghosts}
 use Rattle.czi_rig.specs.declared.file.File.TheVariants.{Image, Journal}
-use Rattle.czi_rig.specs.Disk.{Disk, Left, Everywhere, IsAtRest, at_rest}
-use Rattle.czi_rig.specs.State.{State, known, seen_of}
+use Rattle.czi_rig.specs.Disk.{Disk, Covers, Everywhere, IsAtRest, at_rest}
+use Rattle.czi_rig.specs.State.{State, known}
 use Rattle.czi_rig.specs.Passes.{GoesOn}
-use Rattle.czi_rig.specs.Moments.{Devices, devices, all_of, LeavesNow}
-use Rattle.czi_rig.proofs.Known.{came_from, known_file, known_said, known_seen, source_of, told_before}
-use Rattle.czi_vault.specs.Recovered.{IsFree, Recovered, StandsNow, StandsOr}
-use Rattle.czi_engine.specs.Commit.{Step, made_of, removed}
-use Rattle.czi_engine.specs.Editing.{Accepts, DuringEdit, KeepsPlan}
-use Rattle.czi_engine.specs.Free.{AreFree}
+use Rattle.czi_rig.specs.Moments.{Devices, devices, all_of, LeavesNow, OnlyNow, Throughout}
+use Rattle.czi_rig.specs.Spans.{EachTwo}
+use Rattle.czi_rig.proofs.Known.{came_from, known_file, known_said, source_of, told_before}
+use Rattle.czi_rig.proofs.Quiet.{untouched_here}
+use Rattle.czi_rig.proofs.Runs.{started, weaker}
+use Rattle.czi_rig.proofs.Spans.{during, each_two}
+use Rattle.czi_space.specs.State.{IsWhole}
+use Rattle.czi_vault.specs.Alone.{HasBytes, KeepsOr}
+use Rattle.czi_vault.specs.Puts.{ranges}
+use Rattle.czi_vault.specs.Recovered.{Recovered, StandsNow, StandsOr, View}
+use Rattle.czi_rig.specs.Faults.{Faults}
+use Rattle.czi_engine.specs.Devices.{edit_device}
+use Rattle.czi_engine.specs.Edited.{Edits, OnFiles, OnImage}
+use Rattle.czi_engine.specs.Editing.{Accepts, Alike, AsBefore, DuringEdit, Goes, Refuses, is_device, refusal_of}
 use Rattle.czi_engine.specs.Holes.{AreHigh, view_of}
-use Rattle.czi_region.specs.declared.block.Region.{Region}
-use Rattle.czi_space.specs.State.{MapState}
-use Rattle.czi_engine.specs.Next.{IsPrepared, PreparedOf}
-use Rattle.czi_engine.specs.Removing.{WritesOne, step_of}
-use Rattle.czi_engine.specs.Standing.{AreWhole, HasItsMap, HasSome, HasState, IsItself, StandsOnRig, file_of}
+use Rattle.czi_engine.specs.Prepared.{IsPrepared}
+use Rattle.czi_engine.specs.Standing.{AreWhole, HasItsMap, HasSome, HasState, IsItself, Origin, StandsOnRig, origin_in}
 use Rattle.czi_engine.specs.declared.engine.Engine.{Engine}
-use Rattle.czi_engine.specs.declared.next.Next.{Next}
-use Rattle.czi_engine.proofs.Accepting.{after_map, after_whole, is_after}
-use Rattle.czi_engine.proofs.Committed.{removal_stands}
-use Rattle.czi_engine.proofs.Following.{items_kept, removal_has}
-use Rattle.czi_engine.proofs.Held.{rests_stands}
-use Rattle.czi_engine.proofs.Keeping.{during_edit}
-use Rattle.czi_engine.proofs.Ranges.{holes_high}
-use Rattle.czi_engine.proofs.Stepping.{removal_is_step}
+use Rattle.czi_engine.specs.declared.engine.EngineState.{EngineState}
+use Rattle.czi_engine.specs.declared.error.EditError.{EditError}
+use Rattle.czi_engine.specs.declared.error.EditError.TheVariants.{NoKey, Full, Memory, ImageDevice, JournalDevice}
+use Rattle.czi_engine.proofs.Going.{has_next, high, kept_next, leaves_100, made_by, stands_next, touches, turn, writes_free}
+use Rattle.czi_engine.proofs.Keeping.{rests_stands, during_edit, one_alike}
+use Rattle.czi_engine.proofs.Same.{same_has}
 
 seen_is : (o : Option Disk) (disk : Disk) (bytes : List ℕ) → o ≡ Some disk → option_map (λ (d : Disk). d.seen) o ≡ Some bytes → disk.seen ≡ bytes
 seen_is o disk bytes is seen = same_Some disk.seen bytes (sym (ap (option_map (λ (d : Disk). d.seen)) is) ∙ seen)
 
-one_write : (x : Engine) (i : ℕ) → (r : Removes x.index x.map i (left_entries i x.index) x.region x.plan) → WritesOne x i r.span.at x.region x.plan
-one_write x i r = record { piece = r.piece; write = r.write; long = r.long }
-
 -- what a crash may leave stands for the bytes of the state
-pub stands_now : (all : Devices) (s : MachineState) (high : AreHigh s) → IsAtRest all.image → IsItself all.image all.journal → StandsNow (view_of all.image.seen s high) all
-stands_now all s high rest itself = rests_stands all all.image.seen s high (record { image = rest; recovers = λ i j o l. itself i j l.image_is l.journal_is })
+stands_now : (all : Devices) (s : MachineState) (up : AreHigh s) → IsAtRest all.image → IsItself all.image all.journal → StandsNow (view_of all.image.seen s up) all
+stands_now all s up rest itself = rests_stands all all.image.seen s up (record { image = rest; recovers = λ i j o l. itself i j l.image_is l.journal_is })
 
-module _ (start bytes : List ℕ) (live : Live) (s : MachineState) (x : Engine) (dims : List Dim) (i : ℕ) (has : HasState start bytes live s x) (own : HasItsMap x) (whole : AreWhole x.edits.items)
-    (found : tile_with dims (map tile_of x.index.tiles.items) ≡ Some i) (r : Removes x.index x.map i (left_entries i x.index) x.region x.plan) where
-  abbrev pub high : AreHigh s
-  high = holes_high start bytes live s has.stands
+-- what is said of carrying it out
+abbrev pub Carried : {D : Type 0} → Ghosts D → Engine → D → D → Type 0
+Carried rig x old new = ForSome (devices (rig.state old)) (λ all. (view : View) → StandsNow view all → HasBytes view all.image.seen → slice_index all.image.seen 100 ≡ 0
+    → (Covers (ranges x.scratch.plan.links.links) 100 → ⊥) → AreFree view (filled x.state.index.length (writes_of x.scratch.region x.scratch.plan))
+    → Throughout rig old new (λ image j said. KeepsOr view (made_by x all.image.seen) image j × (said ≡ all.said)))
 
-  -- what is written before the commit is free
-  pub writes_free : AllByRecursion (λ (w : Bytes). IsFree (view_of bytes s high) w.place (length w.bytes)) (filled x.index.length (writes_of x.region x.plan))
-  writes_free = (removal_is_step start bytes live s x dims i x.region x.plan high has own whole found r (one_write x i r)).3
+keeps_stands : (view : View) (bytes image journal : List ℕ) → KeepsOr view bytes image journal → StandsOr view bytes image journal
+keeps_stands view bytes image journal sides = ⊎_elim (λ keeps. inl keeps.0) (λ made. inr made.0) sides
 
-  pub removal_goes : after_edit s (remove dims) ≡ Ok (removed s i r.span.at)
-  removal_goes =
-      let st = removal_is_step start bytes live s x dims i x.region x.plan high has own whole found r (one_write x i r) in
-      (removal_stands start bytes live s dims i (directory_at r.span.at (left_entries i x.index)) (step_of x x.region x.plan (r.span.at + 32)) has.stands st.0 st.1).0
+module _ {D : Type 0} (rig : Ghosts D) (old new : D) (x : Engine) (go : Goes) (held : Option CodeSpan) (p : IsPrepared go x held) (on : StandsOnRig (rig.state old) x.state) (carried : Carried rig x old new) where
+  carried_on : (all : Devices) → devices (rig.state old) ≡ Some all → (o : Origin) (live : Live) (s : MachineState) → (has : HasState o all.image.seen live s x.state)
+      → Throughout rig old new (λ image j said. KeepsOr (view_of all.image.seen s (high o all.image.seen live s x has on.own_map p.plan)) (made_by x all.image.seen) image j × (said ≡ all.said))
+  carried_on all is o live s has =
+      let up = high o all.image.seen live s x has on.own_map p.plan in
+      carried all is (view_of all.image.seen s up) (stands_now all s up (on.image all.image (known_file (rig.state old) Image all is)) (on.itself all is))
+      (record { long = omega arith; each = λ k lt out. refl }) (has.stands.settled 100 (omega arith) (omega arith))
+      (leaves_100 o all.image.seen live s x has on.own_map p.plan go held (p.means o all.image.seen live s has)) (writes_free o all.image.seen live s x has on.own_map p.plan)
 
-  -- while it is carried out
-  pub removal_during : (before image journal said : List ℕ) → StandsOr (view_of bytes s high) (made (file_of x) x.plan x.region bytes) image journal × (said ≡ before) → DuringEdit start s (remove dims) before image journal said
-  removal_during before image journal said sides =
-      let c : Step = step_of x x.region x.plan (r.span.at + 32) in
-      let d : Directory = directory_at r.span.at (left_entries i x.index) in
-      let st = removal_is_step start bytes live s x dims i x.region x.plan high has own whole found r (one_write x i r) in
-      let stands = removal_stands start bytes live s dims i d c has.stands st.0 st.1 in
-      let kept = items_kept start bytes live s dims i d c has.stands st.0 st.1 has.kept in
-      during_edit start bytes (made_of c bytes) image journal said before live (turned (with_directory d (out i)) live) s (removed s i r.span.at) (remove dims) high has.stands has.kept stands.1 kept stands.0
-      (subst (λ (z : List ℕ). StandsOr (view_of bytes s high) z image journal) st.2 sides.0, sides.1)
+  pub moments : OnFiles (rig.state old) x.state (λ all o s. Throughout rig old new (DuringEdit o s go all.said))
+  moments all is o live s has =
+      let bytes = all.image.seen in
+      let by = p.means o bytes live s has in
+      let up = high o bytes live s x has on.own_map p.plan in
+      weaker rig (λ i j said sides. during_edit o bytes (made_by x bytes) i j said all.said live (turned (turn x) live) s by.state go up has.stands has.kept
+      (stands_next o bytes live s x has on.own_map p.plan go held by) (kept_next o bytes live s x has on.own_map p.plan go held by) by.goes sides) (carried_on all is o live s has)
 
--- carrying the plan out leaves it as it was
-pub prepared_carried : (x y : Engine) (i : ℕ) (n : Next) → KeepsPlan x y → IsPrepared x i n → IsPrepared y i n
-prepared_carried x y i n kept p =
-    subst (λ (v : Index). PreparedOf v y.map y.region y.plan y.edits.items i n) (sym kept.index)
-    (subst (λ (v : MapState). PreparedOf x.index v y.region y.plan y.edits.items i n) (sym kept.map)
-    (subst (λ (v : Region). PreparedOf x.index x.map v y.plan y.edits.items i n) (sym kept.region)
-    (subst (λ (v : EditPlan). PreparedOf x.index x.map x.region v y.edits.items i n) (sym kept.plan)
-    (subst (λ v. PreparedOf x.index x.map x.region x.plan v.items i n) (sym kept.edits) p))))
-
--- what is taken over, told by the engine before
-pub taken_over : (x y z : Engine) (i : ℕ) (n : Next) → KeepsPlan x y → IsWithout i n.directory n.extents.items y.plan.length n.walk_end y.index z.index → z.number ≡ one_more y.number
-    → IsWithout i n.directory n.extents.items x.plan.length n.walk_end x.index z.index × (z.number ≡ one_more x.number)
-taken_over x y z i n kept w number = (
-  subst (λ (v : Index). IsWithout i n.directory n.extents.items x.plan.length n.walk_end v z.index) kept.index
-      (subst (λ (p : EditPlan). IsWithout i n.directory n.extents.items p.length n.walk_end y.index z.index) kept.plan w),
-  number ∙ ap one_more kept.number,
-)
+  pub alike : OnlyNow rig → OnFiles (rig.state old) x.state (λ all o s. EachTwo rig old new Alike)
+  alike only all is o live s has =
+      let bytes = all.image.seen in
+      let by = p.means o bytes live s has in
+      let up = high o bytes live s x has on.own_map p.plan in
+      let rests = stands_now all s up (on.image all.image (known_file (rig.state old) Image all is)) (on.itself all is) in
+      each_two rig Alike (λ i j said i' j' said' one two a b l m ra rb la lb. touches o bytes live s x has on.own_map p.plan go held by i j i' j' a b l m one two ra rb la lb)
+      (during rig all only is (weaker rig (λ i j said sides. keeps_stands (view_of bytes s up) (made_by x bytes) i j sides.0) (carried_on all is o live s has)) (λ i j said l. inl (rests i j said l)))
 
 -- the engine afterwards
-module _ (x y : Engine) (i : ℕ) (n : Next) (p : IsPrepared x i n) (own : HasItsMap x) (whole : AreWhole x.edits.items)
-    (index : IsWithout i n.directory n.extents.items x.plan.length n.walk_end x.index y.index) (map_is : y.map ≡ n.map) (edits : y.edits ≡ n.edits) (number : y.number ≡ one_more x.number) where
-  has_after : (start bytes : List ℕ) (live : Live) (s : MachineState) (dims : List Dim) → HasState start bytes live s x → tile_with dims (map tile_of x.index.tiles.items) ≡ Some i
-      → HasState start (made (file_of x) x.plan x.region bytes) (turned (with_directory (directory_at p.removes.span.at (left_entries i x.index)) (out i)) live) (removed s i p.removes.span.at) y
-  has_after start bytes live s dims has found =
-      removal_has start bytes live s x y dims i p.tile x.region x.plan has own whole found p.is_tile p.removes (one_write x i p.removes)
-      (is_after start bytes live s x i x.region x.plan has own p.removes p.tile n p.next y index edits number)
+module _ (x : Engine) (y : EngineState) (go : Goes) (held : Option CodeSpan) (p : IsPrepared go x held) (own : HasItsMap x.state)
+    (index : IsChanged x.scratch.plan.change y.index.extents.items x.scratch.plan.length x.state.index y.index) (extents : map span_of y.index.extents.items ≡ extents_after x.scratch.plan x.state.map.extents)
+    (edits : y.edits.items ≡ held ∷ take 31 x.state.edits.items) (number : y.number ≡ one_more x.state.number) (old new : State)
+    (image : known new Image ≡ option_map (λ (disk : Disk). at_rest (made_by x disk.seen)) (known old Image)) where
+  has_after : (bytes : List ℕ) (o : Origin) (live : Live) (s : MachineState) → (has : HasState o bytes live s x.state) → (let by = p.means o bytes live s has in HasState (origin_in o by.state) (made_by x bytes) (turned (turn x) live) by.state y)
+  has_after bytes o live s has = has_next o bytes live s x has own p.plan go held (p.means o bytes live s has) y index extents edits number
 
-  -- the image afterwards is that of one before
-  pub accepts : (old new : State) (bytes : List ℕ) → known new Image ≡ option_map (λ (disk : Disk). at_rest (made (file_of x) x.plan x.region disk.seen)) (known old Image) → seen_of old Image ≡ Some bytes
-      → (start : List ℕ) (live : Live) (s : MachineState) (dims : List Dim) → HasState start bytes live s x → tile_with dims (map tile_of x.index.tiles.items) ≡ Some i → Accepts (remove dims) start s new y y.number
-  accepts old new bytes image seen start live s dims has found = record {
-    state = removed s i p.removes.span.at;
-    goes = removal_goes start bytes live s x dims i has own whole found p.removes;
-    numbered = (has_after start bytes live s dims has found).number;
-    live = turned (with_directory (directory_at p.removes.span.at (left_entries i x.index)) (out i)) live;
-    has = λ now is.
-        let from = source_of (known old Image) (known new Image) (λ (disk : Disk). at_rest (made (file_of x) x.plan x.region disk.seen)) now image is in
-        let same : from.disk.seen ≡ bytes = seen_is (known old Image) from.disk bytes from.known_before seen in
-        subst (λ (b : List ℕ). HasState start b (turned (with_directory (directory_at p.removes.span.at (left_entries i x.index)) (out i)) live) (removed s i p.removes.span.at) y)
-        (ap (made (file_of x) x.plan x.region) (sym same) ∙ sym from.seen_is) (has_after start bytes live s dims has found);
-  }
+  pub accepts : OnImage old x.state (λ o s. Accepts go o s new y y.number)
+  accepts bytes seen o live s has =
+      let by = p.means o bytes live s has in
+      record {
+        state = by.state;
+        goes = by.goes;
+        numbered = (has_after bytes o live s has).number;
+        counted = number ∙ ap one_more has.number;
+        live = turned (turn x) live;
+        has = λ now is.
+            let from = source_of (known old Image) (known new Image) (λ (disk : Disk). at_rest (made_by x disk.seen)) now image is in
+            let same : from.disk.seen ≡ bytes = seen_is (known old Image) from.disk bytes from.known_before seen in
+            subst (λ (b : List ℕ). HasState (origin_in o by.state) b (turned (turn x) live) by.state y) (ap (made_by x) (sym same) ∙ sym from.seen_is) (has_after bytes o live s has);
+      }
 
-  -- it stands on the rig
-  pub stands_after : (old new : State) → StandsOnRig old x → (dims : List Dim) × (tile_with dims (map tile_of x.index.tiles.items) ≡ Some i)
-      → known new Image ≡ option_map (λ (disk : Disk). at_rest (made (file_of x) x.plan x.region disk.seen)) (known old Image)
-      → ForSome (devices old) (λ all. ForSome (devices new) (λ now. (image j said : List ℕ) → LeavesNow now image j said → Recovered image j (made (file_of x) x.plan x.region all.image.seen)))
+  pub stands_after : StandsOnRig old x.state → HasItsMap y → AreWhole y.edits.items → length y.edits.items ≤ 32
+      → ForSome (devices old) (λ all. ForSome (devices new) (λ now. (image j said : List ℕ) → LeavesNow now image j said → Recovered image j (made_by x all.image.seen)))
       → ForSome (known new Journal) (Everywhere (IsJournal y.journal)) → y.journal.armed ≡ true → GoesOn old new → new.said ≡ old.said → StandsOnRig new y
-  stands_after old new on named image committed journal armed goes said =
-      let h : Disk → Disk = λ disk. at_rest (made (file_of x) x.plan x.region disk.seen) in
-      let all_whole = after_whole x y p.tile x.plan p.removes.span n p.next edits whole in
+  stands_after on map_is whole few committed journal armed goes said =
+      let h : Disk → Disk = λ disk. at_rest (made_by x disk.seen) in
       record {
         image = λ disk is. let from = came_from (known old Image) (known new Image) h disk image is in subst IsAtRest (sym from.is) refl;
         itself = λ now is.
@@ -141,17 +125,185 @@ module _ (x y : Engine) (i : ℕ) (n : Next) (p : IsPrepared x i n) (own : HasIt
             let of_said : old.said ≡ Some now.said = sym said ∙ known_said new now is in
             let all : Devices = record { image = of_image.0; journal = of_journal.0; said = now.said } in
             let was : devices old ≡ Some all = λ k. all_of (of_image.1 k) (of_journal.1 k) (of_said k) in
-            let made_is : now.image.seen ≡ made (file_of x) x.plan x.region all.image.seen =
+            let made_is : now.image.seen ≡ made_by x all.image.seen =
             seen_is (known new Image) now.image (h all.image).seen (known_file new Image now is) (ap (option_map (λ (d : Disk). d.seen)) (image ∙ ap (option_map h) of_image.1)) in
             λ i j li lj. subst (λ (b : List ℕ). Recovered i j b) (sym made_is) (committed all was now is i j now.said (record { image_is = li; journal_is = lj; said_is = refl }));
         state = λ bytes is.
             let from = source_of (known old Image) (known new Image) h bytes image is in
-            let some : HasSome from.disk.seen x = on.state from.disk.seen (ap (option_map (λ (d : Disk). d.seen)) from.known_before) in
+            let some : HasSome from.disk.seen x.state = on.state from.disk.seen (ap (option_map (λ (d : Disk). d.seen)) from.known_before) in
             subst (λ (b : List ℕ). HasSome b y) (sym from.seen_is)
-            (record { start = some.start; live = _; state = _; has = has_after some.start from.disk.seen some.live some.state named.0 some.has named.1 });
+            (record { start = _; live = _; state = _; has = has_after from.disk.seen some.start some.live some.state some.has });
         armed = journal;
         idle = λ off. absurd (true≢false (sym armed ∙ off));
-        own_map = after_map x y p.tile x.plan p.removes.span i n p.next index map_is edits;
-        whole = all_whole.0;
-        few = all_whole.1;
+        own_map = map_is;
+        whole = whole;
+        few = few;
       }
+
+-- what is kept of edits
+fewer_whole : (n : ℕ) (edits : List (Option CodeSpan)) → AreWhole edits → AreWhole (take n edits)
+fewer_whole zero edits all = tt
+fewer_whole (suc n) [] all = tt
+fewer_whole (suc n) (e ∷ edits) all = (all.0, fewer_whole n edits all.1)
+
+pub next_whole : (x : EngineState) (y : EngineState) (held : Option CodeSpan) → ForSome held (λ s. IsWhole (span_of s)) → AreWhole x.edits.items → y.edits.items ≡ held ∷ take 31 x.edits.items → AreWhole y.edits.items × (length y.edits.items ≤ 32)
+next_whole x y held own all is = (
+  subst AreWhole (sym is) (own, fewer_whole 31 x.edits.items all),
+  subst (λ (es : List (Option CodeSpan)). length es ≤ 32) (sym is) (omega (arith, length-take 31 x.edits.items)),
+)
+
+-- an error of a device is no refusal
+device_refuses : (go : Goes) (s : MachineState) (error : EditError) → IsTrue (is_device error) → Refuses go s error
+device_refuses go s NoKey is = absurd (true≢false (sym is))
+device_refuses go s (Full need n) is = absurd (true≢false (sym is))
+device_refuses go s Memory is = absurd (true≢false (sym is))
+device_refuses go s ImageDevice is = tt
+device_refuses go s JournalDevice is = tt
+
+-- and a refusal leaves no doubt
+refused_is : (go : Goes) (s : MachineState) (error : EditError) (refusal : Refusal) → IsFalse (is_device error) → Refuses go s error → go s ≡ Err refusal → (refusal_of error ≡ Some refusal) ⊎ (error ≡ Memory)
+refused_is go s NoKey refusal off refuses goes = inl (let same : no_key ≡ refusal = cc (refuses, goes) in ap Some same)
+refused_is go s (Full need n) refusal off refuses goes = inl (let same : full need n ≡ refusal = cc (refuses, goes) in ap Some same)
+refused_is go s Memory refusal off refuses goes = inr refl
+refused_is go s ImageDevice refusal off refuses goes = absurd (true≢false off)
+refused_is go s JournalDevice refusal off refuses goes = absurd (true≢false off)
+
+no_fault : (s : State) → Faults None s s
+no_fault s = record { image_count = refl; journal_count = refl; output_count = refl }
+
+no_cause : (s : State) (error : EditError) → IsFalse (is_device error) → Faults (edit_device error) s s
+no_cause s NoKey off = no_fault s
+no_cause s (Full need n) off = no_fault s
+no_cause s Memory off = no_fault s
+no_cause s ImageDevice off = absurd (true≢false off)
+no_cause s JournalDevice off = absurd (true≢false off)
+
+not_both : (go : Goes) (s s' : MachineState) (refusal : Refusal) → go s ≡ Ok s' → go s ≡ Err refusal → ⊥
+not_both go s s' refusal goes refused = cc (goes, refused)
+
+module _ {D : Type 0} (rig : Ghosts D) (old new : D) (x : Engine) (go : Goes) (held : Option CodeSpan) (p : IsPrepared go x held) (on : StandsOnRig (rig.state old) x.state) (carried : Carried rig x old new) (only : OnlyNow rig)
+    (said : (rig.state new).said ≡ (rig.state old).said) (goes_on : GoesOn (rig.state old) (rig.state new)) where
+  -- the plan was carried out and taken over
+  pub edited_ok : (y : EngineState) → IsChanged x.scratch.plan.change y.index.extents.items x.scratch.plan.length x.state.index y.index → map span_of y.index.extents.items ≡ extents_after x.scratch.plan x.state.map.extents
+      → HasItsMap y → y.edits.items ≡ held ∷ take 31 x.state.edits.items → y.number ≡ one_more x.state.number → IsFalse y.down
+      → known (rig.state new) Image ≡ option_map (λ (disk : Disk). at_rest (made_by x disk.seen)) (known (rig.state old) Image)
+      → ForSome (devices (rig.state old)) (λ all. ForSome (devices (rig.state new)) (λ now. (image j said : List ℕ) → LeavesNow now image j said → Recovered image j (made_by x all.image.seen)))
+      → ForSome (known (rig.state new) Journal) (Everywhere (IsJournal y.journal)) → y.journal.armed ≡ true → Faults None (rig.state old) (rig.state new) → Edits rig go old new x.state y (Ok y.number)
+  edited_ok y index extents map_is edits number up image committed journal armed cause =
+      let both = next_whole x.state y held p.whole on.whole edits in
+      record {
+        moments = moments rig old new x go held p on carried;
+        alike = alike rig old new x go held p on carried only;
+        accepted = accepts x y go held p on.own_map index extents edits number (rig.state old) (rig.state new) image;
+        stands = stands_after x y go held p on.own_map index extents edits number (rig.state old) (rig.state new) image on map_is both.0 both.1 committed journal armed goes_on said;
+        up = up;
+        armed = armed;
+        refused = tt;
+        refuses = λ bytes seen o live s has refusal refused. let by = p.means o bytes live s has in not_both go s by.state refusal by.goes refused;
+        quiet = tt;
+        down = tt;
+        said = said;
+        goes_on = goes_on;
+        cause = cause;
+      }
+
+  -- a device failed
+  pub edited_err : (y : EngineState) (error : EditError) → IsTrue (is_device error) → IsTrue y.down → Faults (edit_device error) (rig.state old) (rig.state new) → Edits rig go old new x.state y (Err error)
+  edited_err y error device down cause = record {
+    moments = moments rig old new x go held p on carried;
+    alike = alike rig old new x go held p on carried only;
+    accepted = tt;
+    stands = tt;
+    up = tt;
+    armed = tt;
+    refused = λ bytes seen o live s has. device_refuses go s error device;
+    refuses = λ bytes seen o live s has refusal refused. absurd (let by = p.means o bytes live s has in not_both go s by.state refusal by.goes refused);
+    quiet = λ off. absurd (true≢false (sym device ∙ off));
+    down = down ∙ sym device;
+    said = said;
+    goes_on = goes_on;
+    cause = cause;
+  }
+
+-- nothing was asked of a device
+pub edited_none : {D : Type 0} (rig : Ghosts D) (r : D) (only : OnlyNow rig) (itself : ForSome (devices (rig.state r)) (λ all. IsItself all.image all.journal)) (x y : EngineState) (go : Goes) (error : EditError) → IsFalse x.down → IsFalse (is_device error) → AsBefore x y
+    → ((o : Origin) (bytes : List ℕ) (live : Live) (s : MachineState) → HasState o bytes live s x → Refuses go s error) → Edits rig go r r x y (Err error)
+edited_none rig r only itself x y go error up off same refuses = record {
+  moments = λ all is o live s has. started rig r (DuringEdit o s go all.said);
+  alike = λ all is o live s has. each_two rig Alike (λ i j said i' j' said' one two. one_alike all.image.seen i j i' j' one two)
+      (during rig all only is (started rig r (λ i j said. Recovered i j all.image.seen)) (λ i j said l. itself all is i j l.image_is l.journal_is));
+  accepted = tt;
+  stands = tt;
+  up = tt;
+  armed = tt;
+  refused = λ bytes seen o live s has. refuses o bytes live s has;
+  refuses = λ bytes seen o live s has refusal refused. refused_is go s error refusal off (refuses o bytes live s has) refused;
+  quiet = λ none. (refl, same);
+  down = same.down ∙ (up ∙ sym off);
+  said = refl;
+  goes_on = (untouched_here rig r).goes_on;
+  cause = no_cause (rig.state r) error off;
+}
+
+same_index : (a b c : Index) → IsSame a b → IsSame b c → IsSame a c
+same_index a b c p q = record {
+  header = q.header ∙ p.header;
+  length = q.length ∙ p.length;
+  directory = q.directory ∙ p.directory;
+  tiles = q.tiles ∙ p.tiles;
+  attdir = q.attdir ∙ p.attdir;
+  attachments = q.attachments ∙ p.attachments;
+  metadata = q.metadata ∙ p.metadata;
+  extents = q.extents ∙ p.extents;
+  unknown = q.unknown ∙ p.unknown;
+  walk_end = q.walk_end ∙ p.walk_end;
+}
+
+pub before_then : (a b c : EngineState) → AsBefore a b → AsBefore b c → AsBefore a c
+before_then a b c p q = record {
+  journal = q.journal ∙ p.journal;
+  index = same_index a.index b.index c.index p.index q.index;
+  map = record { extents = q.map.extents ∙ p.map.extents; held = q.map.held ∙ p.map.held; length = q.map.length ∙ p.map.length };
+  edits = q.edits ∙ p.edits;
+  number = q.number ∙ p.number;
+  down = q.down ∙ p.down;
+}
+
+-- what an edit keeps to, told by an engine that was as this one
+pub edited_from : {D : Type 0} (rig : Ghosts D) (old new : D) (x z y : EngineState) (go : Goes) (number : ℕ) → AsBefore x z → Edits rig go old new z y (Ok number) → Edits rig go old new x y (Ok number)
+edited_from rig old new x z y go number same e = record {
+  moments = λ all is o live s has. e.moments all is o live s (same_has x z same o all.image.seen live s has);
+  alike = λ all is o live s has. e.alike all is o live s (same_has x z same o all.image.seen live s has);
+  accepted = λ bytes seen o live s has. e.accepted bytes seen o live s (same_has x z same o bytes live s has);
+  stands = e.stands;
+  up = e.up;
+  armed = e.armed;
+  refused = tt;
+  refuses = λ bytes seen o live s has. e.refuses bytes seen o live s (same_has x z same o bytes live s has);
+  quiet = tt;
+  down = tt;
+  said = e.said;
+  goes_on = e.goes_on;
+  cause = e.cause;
+}
+
+pub edited_from_err : {D : Type 0} (rig : Ghosts D) (old new : D) (x z y : EngineState) (go : Goes) (error : EditError) → AsBefore x z → Edits rig go old new z y (Err error) → Edits rig go old new x y (Err error)
+edited_from_err rig old new x z y go error same e = record {
+  moments = λ all is o live s has. e.moments all is o live s (same_has x z same o all.image.seen live s has);
+  alike = λ all is o live s has. e.alike all is o live s (same_has x z same o all.image.seen live s has);
+  accepted = tt;
+  stands = tt;
+  up = tt;
+  armed = tt;
+  refused = λ bytes seen o live s has. e.refused bytes seen o live s (same_has x z same o bytes live s has);
+  refuses = λ bytes seen o live s has. e.refuses bytes seen o live s (same_has x z same o bytes live s has);
+  quiet = λ off. let u = e.quiet off in (u.0, before_then x z y same u.1);
+  down = e.down;
+  said = e.said;
+  goes_on = e.goes_on;
+  cause = e.cause;
+}
+
+pub edited_as : {D : Type 0} (rig : Ghosts D) (old new : D) (x z y : EngineState) (go : Goes) (result : Result ℕ EditError) → AsBefore x z → Edits rig go old new z y result → Edits rig go old new x y result
+edited_as rig old new x z y go (Ok number) same e = edited_from rig old new x z y go number same e
+edited_as rig old new x z y go (Err error) same e = edited_from_err rig old new x z y go error same e

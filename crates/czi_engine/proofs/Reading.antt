@@ -2,35 +2,30 @@
 use Rattle.std.proofs.Common.{◌≡◌, ◌⊎◌, ℕ, ◌+◌, ◌≤◌, ◌<◌, List, [], ◌∷◌, ◌++◌, map, length, get_or, Option, Some, None, refl, ap, sym, ◌∙◌, arith, inl, inr, ⊎_elim, subst}
 use Rattle.std.specs.Option.{unwrap_or, option_or}
 use Rattle.std.proofs.lemmas.Bool.{le-leb, lt-ltb}
-use Rattle.czi_format.specs.Entry.{Dim}
-use Rattle.czi_format.specs.Live.{Live, Directory}
+use Rattle.czi_format.specs.Live.{Live}
 use Rattle.czi_format.specs.Same.{SameLive}
 use Rattle.czi_format.proofs.Local.{reaches_local, document_local}
 use Rattle.czi_links.specs.Record.{Bytes}
 use Rattle.czi_rig.specs.Disk.{Covers}
-use Rattle.czi_machine.specs.Change.{out}
 use Rattle.czi_machine.specs.Cover.{cover}
-use Rattle.czi_machine.specs.Edit.{remove}
-use Rattle.czi_machine.specs.Removal.{with_directory}
 use Rattle.czi_machine.specs.State.{State}
 use Rattle.czi_machine.specs.Turn.{Turn}
 use Rattle.czi_machine.specs.Written.{Piece, piece_span, over, all_over, own_byte, byte_of}
 use Rattle.czi_machine.proofs.Clear.{HeaderAt, header_at_front}
 use Rattle.czi_machine.proofs.Cover.{side, low, here, high}
-use Rattle.czi_machine.proofs.Led.{edits_lead}
-use Rattle.czi_machine.proofs.Over.{length-over, all_over_byte, put_within}
+use Rattle.czi_machine.proofs.Over.{length-over, all_over_byte, none_put}
 use Rattle.czi_vault.specs.Alone.{Alone, IsPending, HasBytesBut100}
 use Rattle.czi_vault.specs.Puts.{ranges}
 use Rattle.czi_vault.specs.Recovered.{View}
-use Rattle.czi_engine.specs.Commit.{piece_of, pieces_of, BeginWithin, Step, written, pieces_in, IsStep, IsPlanned, IsRemoval, removed}
-use Rattle.czi_engine.specs.Free.{AreFree}
+use Rattle.czi_commit.specs.Filled.{AreFree, filled}
+use Rattle.czi_commit.specs.Made.{Step}
+use Rattle.czi_engine.specs.Commit.{piece_of, pieces_of, written, pieces_in, IsPlanned}
+use Rattle.czi_engine.proofs.Made.{filled_begin, with_links_is}
 use Rattle.czi_engine.specs.Holes.{AreHigh, view_of}
 use Rattle.czi_engine.specs.Stands.{StandsOn, ShowsWhole}
-use Rattle.czi_engine.proofs.Committed.{none_pending, removal_stands}
-use Rattle.czi_engine.proofs.Made.{with_links_is}
+use Rattle.czi_engine.proofs.Committed.{none_pending}
 use Rattle.czi_engine.proofs.Openable.{settled_whole}
-use Rattle.czi_engine.proofs.Outside.{Has, same_live}
-use Rattle.czi_engine.proofs.Ranges.{front_outside}
+use Rattle.czi_engine.proofs.Outside.{Has, same_live, front_outside}
 
 shows_alone : (start bytes image : List ℕ) (live : Live) (s : State) → StandsOn start bytes live s → Has bytes image s → ShowsWhole image s.document
 shows_alone start bytes image live s on has =
@@ -44,6 +39,10 @@ shows_alone start bytes image live s on has =
 pub alone_shows : (start bytes image : List ℕ) (live : Live) (s : State) (far : AreHigh s) → StandsOn start bytes live s → Alone (view_of bytes s far) image → IsPending image ⊎ ShowsWhole image s.document
 alone_shows start bytes image live s far on alone = ⊎_elim (λ waits. inl waits) (λ has. inr (shows_alone start bytes image live s on (record { long = has.long; each = has.each }))) alone
 
+-- the bytes of a state show its document
+pub shows_whole : (start bytes : List ℕ) (live : Live) (s : State) → StandsOn start bytes live s → ShowsWhole bytes s.document
+shows_whole start bytes live s on = record { shows = (live, on.lies.reaches, on.lies.document); whole = settled_whole bytes on.settled }
+
 -- no free write is at a place that matters
 free_elsewhere : (view : View) (ws : List Bytes) (k : ℕ) → AreFree view ws → k < length view.bytes → (Covers view.holes k → ⊥) → cover (map piece_span (pieces_of ws)) k ≡ 0
 free_elsewhere view [] k free small out = refl
@@ -55,22 +54,14 @@ free_elsewhere view (w ∷ ws) k free small out =
       | here h l e ↦ ⊎_elim (λ hole. absurd (out hole)) (λ past. absurd (omega (arith, past, small))) (free.0 k h l)
     ]
 
-none_put : (pieces : List Piece) (k : ℕ) → cover (map piece_span pieces) k ≡ 0 → byte_of pieces k ≡ None
-none_put pieces k none = on_byte (byte_of pieces k) refl
-  where
-    on_byte : (o : Option ℕ) → byte_of pieces k ≡ o → o ≡ None
-    on_byte None e = refl
-    on_byte (Some b) e = absurd (omega (arith, put_within pieces k b e, none))
-
 longer : (image : List ℕ) (pieces : List Piece) → length image ≤ length (all_over image pieces)
 longer image [] = omega arith
 longer image (p ∷ pieces) = omega (arith, length-over image p, longer (over image p) pieces)
 
-pub written_has : (bytes : List ℕ) (s : State) (far : AreHigh s) (c : Step) → BeginWithin (length bytes) (c.zeros ++ c.writes) → AreFree (view_of bytes s far) (c.zeros ++ c.writes)
-    → HasBytesBut100 (view_of bytes s far) (written c bytes)
-written_has bytes s far c begin free =
-    let ws : List Bytes = c.zeros ++ c.writes in
-    let is : written c bytes ≡ all_over bytes (pieces_of ws) = with_links_is ws bytes begin in
+pub written_has : (bytes : List ℕ) (s : State) (far : AreHigh s) (c : Step) → AreFree (view_of bytes s far) (filled (length bytes) c.writes) → HasBytesBut100 (view_of bytes s far) (written c bytes)
+written_has bytes s far c free =
+    let ws : List Bytes = filled (length bytes) c.writes in
+    let is : written c bytes ≡ all_over bytes (pieces_of ws) = with_links_is ws bytes (filled_begin (length bytes) c.writes) in
     subst (HasBytesBut100 (view_of bytes s far)) (sym is) (record {
       long = longer bytes (pieces_of ws);
       each = λ k small out not. all_over_byte bytes (pieces_of ws) k
@@ -95,11 +86,3 @@ none_covered (w ∷ ws) ls k none there = none_covered ws ls k (no_first (byte_o
 pub commit_leaves : (start bytes : List ℕ) (live : Live) (s s' : State) (t : Turn) (c : Step) → StandsOn start bytes live s → IsPlanned bytes live s s' t c → Covers (ranges c.commits.links) 100 → ⊥
 commit_leaves start bytes live s s' t c on plan =
     none_covered c.writes c.commits.links 100 (none_pending bytes live s s' t (pieces_in c) 100 on.lies on.tidy plan.leads plan.spans plan.plans.around.inside (omega arith) (omega arith))
-
-pub removal_leaves : (start bytes : List ℕ) (live : Live) (s : State) (dims : List Dim) (i : ℕ) (d : Directory) (c : Step) → StandsOn start bytes live s → IsRemoval live s dims i d c → IsStep bytes c
-    → Covers (ranges c.commits.links) 100 → ⊥
-removal_leaves start bytes live s dims i d c on plan is =
-    let s' : State = removed s i d.segment.at in
-    let both = removal_stands start bytes live s dims i d c on plan is in
-    none_covered c.writes c.commits.links 100
-    (none_pending bytes live s s' (with_directory d (out i)) (pieces_in c) 100 on.lies on.tidy (edits_lead s s' (remove dims) both.0) both.1.lies.extents plan.plans.around.inside (omega arith) (omega arith))

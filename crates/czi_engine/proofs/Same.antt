@@ -1,35 +1,44 @@
--- An engine of which only the buffers changed stands where it stood.
-use Rattle.std.proofs.Common.{ℕ, ◌≤◌, List, map, length, ap, sym, subst, ◌∙◌}
+-- An engine that is as it was stands where it stood; carrying a plan out leaves what the plan was made of.
+use Rattle.std.proofs.Common.{ℕ, ◌≤◌, List, Option, map, length, ap, sym, subst, ◌∙◌, ◌≡◌, ◌+◌, ◌*◌, ◌∷◌, take, vec_len, vec_capacity}
 use Rattle.std.specs.Option.{ForSome}
 use Rattle.czi_format.specs.Live.{Live}
-use Rattle.czi_image.specs.Holds.{Holds, LiesAs}
+use Rattle.czi_image.proofs.Changed.{holds_still, lies_still}
 use Rattle.czi_machine.specs.State.{State as MachineState, items_of}
 use Rattle.czi_num.specs.Span.{span_of}
+use Rattle.czi_num.specs.declared.span.Span.{Span as CodeSpan}
 use Rattle.czi_opening.specs.Answers.{IsJournal}
 use Rattle.czi_rig.specs.declared.file.File.TheVariants.{Journal}
 use Rattle.czi_rig.specs.Disk.{Everywhere}
 use Rattle.czi_rig.specs.State.{State, known}
-use Rattle.czi_engine.specs.Editing.{SameEngine}
-use Rattle.czi_engine.specs.Standing.{AreWhole, HasItsMap, HasState, HoldBack, StandsOnRig, held_by}
+use Rattle.czi_image.specs.Applied.{HasRoom, IsChanged}
+use Rattle.czi_image.specs.declared.index.Index.{Index}
+use Rattle.czi_machine.specs.Machine.{one_more}
+use Rattle.czi_plan.specs.Plan.{IsPlan, extents_after}
+use Rattle.czi_plan.specs.declared.plan.EditPlan.{EditPlan}
+use Rattle.czi_region.specs.declared.block.Region.{Region}
+use Rattle.czi_space.specs.State.{MapState}
+use Rattle.czi_engine.specs.Editing.{AsBefore}
+use Rattle.czi_engine.specs.Standing.{AreWhole, HasItsMap, HasState, HoldBack, Origin, StandsOnRig, held_by}
+use Rattle.czi_engine.specs.declared.engine.EngineState.{EngineState}
+use Rattle.czi_engine.specs.Prepared.{HasMemory, KeepsPlan}
 use Rattle.czi_engine.specs.declared.engine.Engine.{Engine}
 
--- a property of an engine that looks at none of the buffers
-module _ (x y : Engine) (same : SameEngine x y) where
-  pub same_has : (start bytes : List ℕ) (live : Live) (s : MachineState) → HasState start bytes live s x → HasState start bytes live s y
-  same_has start bytes live s has = record {
+module _ (x y : EngineState) (same : AsBefore x y) where
+  pub same_has : (o : Origin) (bytes : List ℕ) (live : Live) (s : MachineState) → HasState o bytes live s x → HasState o bytes live s y
+  same_has o bytes live s has = record {
     stands = has.stands;
-    holds = subst (Holds live) (sym same.index) has.holds;
-    lies = subst (LiesAs s.layout) (sym same.index) has.lies;
-    edits = subst (λ v. HoldBack (items_of s.layout) s.formers v.items) (sym same.edits) has.edits;
+    holds = holds_still x.index y.index live same.index has.holds;
+    lies = lies_still x.index y.index s.layout same.index has.lies;
+    edits = subst (HoldBack (items_of s.layout) s.formers) (sym same.edits) has.edits;
     number = same.number ∙ has.number;
     kept = has.kept;
   }
 
-  same_map : HasItsMap x → HasItsMap y
+  pub same_map : HasItsMap x → HasItsMap y
   same_map own = record {
-    extents = ap (λ m. m.extents) same.map ∙ (own.extents ∙ ap (λ v. map span_of v.extents.items) (sym same.index));
-    held = ap (λ m. m.held) same.map ∙ (own.held ∙ ap (λ v. held_by v.items) (sym same.edits));
-    length = ap (λ m. m.length) same.map ∙ (own.length ∙ ap (λ v. v.length) (sym same.index));
+    extents = same.map.extents ∙ (own.extents ∙ ap (map span_of) (sym same.index.extents));
+    held = same.map.held ∙ (own.held ∙ ap held_by (sym same.edits));
+    length = same.map.length ∙ (own.length ∙ sym same.index.length);
   }
 
   pub same_stands : (s : State) → StandsOnRig s x → StandsOnRig s y
@@ -40,6 +49,45 @@ module _ (x y : Engine) (same : SameEngine x y) where
     armed = subst (λ j. ForSome (known s Journal) (Everywhere (IsJournal j))) (sym same.journal) on.armed;
     idle = λ off. on.idle (sym (ap (λ j. j.armed) same.journal) ∙ off);
     own_map = same_map on.own_map;
-    whole = subst (λ v. AreWhole v.items) (sym same.edits) on.whole;
-    few = subst (λ v. length v.items ≤ 32) (sym same.edits) on.few;
+    whole = subst AreWhole (sym same.edits) on.whole;
+    few = subst (λ (es : List (Option CodeSpan)). length es ≤ 32) (sym same.edits) on.few;
   }
+
+module _ (x z : Engine) (k : KeepsPlan x z) where
+  pub plan_carried : IsPlan x.state.index x.state.map x.scratch.region x.scratch.plan → IsPlan z.state.index z.state.map z.scratch.region z.scratch.plan
+  plan_carried p =
+      subst (λ (i : Index). IsPlan i z.state.map z.scratch.region z.scratch.plan) (sym k.index)
+      (subst (λ (m : MapState). IsPlan x.state.index m z.scratch.region z.scratch.plan) (sym k.map)
+      (subst (λ (r : Region). IsPlan x.state.index x.state.map r z.scratch.plan) (sym k.region)
+      (subst (λ (e : EditPlan). IsPlan x.state.index x.state.map x.scratch.region e) (sym k.plan) p)))
+
+  pub memory_carried : HasMemory x → HasMemory z
+  memory_carried h = record {
+    spare = subst (λ (e : EditPlan). 2 * length e.used.items + 2 * length e.freed.items + 1 ≤ z.state.map.spare) (sym k.plan)
+        (subst (λ (m : MapState). 2 * length x.scratch.plan.used.items + 2 * length x.scratch.plan.freed.items + 1 ≤ m.spare) (sym k.map) h.spare);
+    index = subst (λ (e : EditPlan). HasRoom e.change (length z.state.map.extents + (2 * length e.used.items + 2 * length e.freed.items)) z.state.index) (sym k.plan)
+        (subst (λ (m : MapState). HasRoom x.scratch.plan.change (length m.extents + (2 * length x.scratch.plan.used.items + 2 * length x.scratch.plan.freed.items)) z.state.index) (sym k.map)
+        (subst (λ (i : Index). HasRoom x.scratch.plan.change (length x.state.map.extents + (2 * length x.scratch.plan.used.items + 2 * length x.scratch.plan.freed.items)) i) (sym k.index) h.index));
+    edits = subst (λ v. vec_len v + 1 ≤ vec_capacity v) (sym k.edits) h.edits;
+  }
+
+  pub map_carried : HasItsMap x.state → HasItsMap z.state
+  map_carried own = record {
+    extents = ap (λ (m : MapState). m.extents) k.map ∙ (own.extents ∙ ap (λ (i : Index). map span_of i.extents.items) (sym k.index));
+    held = ap (λ (m : MapState). m.held) k.map ∙ (own.held ∙ ap (λ v. held_by v.items) (sym k.edits));
+    length = ap (λ (m : MapState). m.length) k.map ∙ (own.length ∙ ap (λ (i : Index). i.length) (sym k.index));
+  }
+
+  -- what was taken over, told by the engine before
+  pub changed_carried : (y : EngineState) → IsChanged z.scratch.plan.change y.index.extents.items z.scratch.plan.length z.state.index y.index → IsChanged x.scratch.plan.change y.index.extents.items x.scratch.plan.length x.state.index y.index
+  changed_carried y c = subst (λ (i : Index). IsChanged x.scratch.plan.change y.index.extents.items x.scratch.plan.length i y.index) k.index
+      (subst (λ (e : EditPlan). IsChanged e.change y.index.extents.items e.length z.state.index y.index) k.plan c)
+
+  pub extents_carried : (y : EngineState) → map span_of y.index.extents.items ≡ extents_after z.scratch.plan z.state.map.extents → map span_of y.index.extents.items ≡ extents_after x.scratch.plan x.state.map.extents
+  extents_carried y e = e ∙ (λ i. extents_after (k.plan i) ((k.map i).extents))
+
+  pub edits_carried : (y : EngineState) (held : Option CodeSpan) → y.edits.items ≡ held ∷ take 31 z.state.edits.items → y.edits.items ≡ held ∷ take 31 x.state.edits.items
+  edits_carried y held e = e ∙ ap (λ v. held ∷ take 31 v.items) k.edits
+
+  pub number_carried : (y : EngineState) → y.number ≡ one_more z.state.number → y.number ≡ one_more x.state.number
+  number_carried y e = e ∙ ap one_more k.number

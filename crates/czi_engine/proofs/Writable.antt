@@ -1,9 +1,9 @@
 -- What is free space is free in the view of a state.
-use Rattle.std.proofs.Common.{◌≡◌, ◌⊎◌, ℕ, ◌+◌, ◌-◌, ◌≤◌, ◌<◌, max, min, List, [], ◌∷◌, ◌++◌, map, length, Bool, true, nat_le, nat_lt, Option, Some, None, Result, Ok, refl, ap, sym, ◌∙◌, arith, inl, inr, ⊎_elim, subst, ◌^◌}
+use Rattle.std.proofs.Common.{◌≡◌, ◌⊎◌, ℕ, ◌+◌, ◌-◌, ◌≤◌, ◌<◌, max, min, List, [], ◌∷◌, ◌++◌, map, length, Bool, true, nat_le, nat_lt, Option, Some, None, Ok, refl, ap, sym, ◌∙◌, arith, inl, inr, ⊎_elim, subst, ◌^◌}
 use Rattle.std.specs.List.{AllByRecursion, find, flat_map}
 use Rattle.std.proofs.lemmas.Bool.{cases_lt, cases_Bool, leb-true, ltb-true}
 use Rattle.czi_format.specs.Live.{Live}
-use Rattle.czi_format.specs.Space.{Full, from_to, left_of, without, free_runs, place_for, place_in, place_past}
+use Rattle.czi_format.specs.Space.{from_to, left_of, without, free_runs, place_for, place_in, place_past}
 use Rattle.czi_format.specs.Span.{Span, end_of, meets, round32}
 use Rattle.czi_links.specs.Record.{Bytes}
 use Rattle.czi_machine.specs.Cover.{cover, LiesInOne}
@@ -11,16 +11,17 @@ use Rattle.czi_machine.specs.Holes.{interior, holes}
 use Rattle.czi_machine.specs.Places.{space_of}
 use Rattle.czi_machine.specs.Sound.{IsTidy, usable_held}
 use Rattle.czi_machine.specs.State.{State, held}
-use Rattle.czi_machine.specs.Written.{IsZeros}
 use Rattle.czi_machine.proofs.Cover.{between_in, without_in, without_out}
 use Rattle.czi_machine.proofs.Placing.{held_parts, in_one_covers}
 use Rattle.czi_machine.proofs.Tiled.{All-weaken}
 use Rattle.czi_vault.specs.Recovered.{IsFree}
-use Rattle.czi_engine.specs.Commit.{piece_of}
-use Rattle.czi_engine.specs.Free.{LiesFree, HoldsUsable, AreFree}
+use Rattle.czi_commit.specs.Filled.{AreFree, filled}
+use Rattle.czi_engine.specs.Free.{LiesFree, HoldsUsable}
+use Rattle.czi_engine.proofs.Made.{filled_free}
 use Rattle.czi_engine.specs.Holes.{AreHigh, view_of}
 use Rattle.czi_engine.specs.Stands.{StandsOn}
-use Rattle.czi_engine.proofs.Ranges.{covers, interiors_fewer}
+use Rattle.czi_engine.proofs.Outside.{covers, interiors_fewer}
+use Rattle.czi_machine.proofs.Restated.{one_ok}
 
 -- a place in a hole, whichever spans are held: those that can be used again are enough
 hole_of : (s : State) (held' : List Span) (k : ℕ) → IsTidy s → HoldsUsable s held' → 1 ≤ cover (holes held' s.layout.deleted) k → 1 ≤ cover (holes (held s) s.layout.deleted) k
@@ -45,9 +46,8 @@ free_in_view start bytes live s high held' (w ∷ writes) on holds all = (
   free_in_view start bytes live s high held' writes on holds all.1,
 )
 
-pub zeros_in_view : (bytes : List ℕ) (s : State) (high : AreHigh s) (zeros : List Bytes) → AllByRecursion (λ (z : Bytes). IsZeros bytes (piece_of z)) zeros → AreFree (view_of bytes s high) zeros
-zeros_in_view bytes s high [] all = tt
-zeros_in_view bytes s high (z ∷ zeros) all = (λ k from to. inr (omega (arith, all.0.behind, from)), zeros_in_view bytes s high zeros all.1)
+pub filled_in_view : (bytes : List ℕ) (s : State) (high : AreHigh s) (writes : List Bytes) → AreFree (view_of bytes s high) writes → AreFree (view_of bytes s high) (filled (length bytes) writes)
+filled_in_view bytes s high writes free = filled_free (view_of bytes s high) (length bytes) writes (omega arith) free
 
 -- what is left of spans lies in one of them
 one_left : (r : Span) (xs ys : List Span) → LiesInOne r (xs ++ ys) → LiesInOne r xs ⊎ LiesInOne r ys
@@ -101,9 +101,6 @@ was_found P q (y ∷ xs) x e all = elim (cases_Bool (q y)) [
   | inr t ↦ was_found P q xs x (rw t at e) all.1
 ]
 
-same_place : (a b : ℕ) (r : Result ℕ Full) → r ≡ Ok a → r ≡ Ok b → a ≡ b
-same_place a b r p q = cc
-
 -- where a need goes
 data Goes (s : State) (need at : ℕ) : Type 0 where
   in_run : (run : Span) → run.at ≡ at → need ≤ run.len → LiesInOne run (free_runs (held s) s.layout.deleted) → LiesInOne run s.layout.deleted → Goes s need at
@@ -115,10 +112,10 @@ goes s need at e = on_run (find (λ (r : Span). nat_le need r.len) (free_runs (h
     on_run : (o : Option Span) → find (λ (r : Span). nat_le need r.len) (free_runs (held s) s.layout.deleted) ≡ o → place_in (space_of s) need o ≡ Ok at → Goes s need at
     on_run (Some run) there e' =
         let f = was_found (λ (r : Span). LiesInOne r (free_runs (held s) s.layout.deleted) × LiesInOne r s.layout.deleted) (λ (r : Span). nat_le need r.len) (free_runs (held s) s.layout.deleted) run there (runs_in_one (held s) s.layout.deleted) in
-        in_run run (same_place run.at at (place_in (space_of s) need (Some run)) refl e') (leb-true _ _ f.1) f.0.0 f.0.1
+        in_run run (one_ok run.at at (place_in (space_of s) need (Some run)) refl e') (leb-true _ _ f.1) f.0.0 f.0.1
     on_run None there e' = elim (cases_Bool (nat_le (round32 s.layout.length + need) (2 ^ 40))) [
       | inr t ↦ absurd (let clash = rw t at e' in cc (clash))
-      | inl t ↦ let is : round32 s.layout.length ≡ at = same_place (round32 s.layout.length) at (place_past (space_of s) need) (rw t) e' in past (omega (arith, is))
+      | inl t ↦ let is : round32 s.layout.length ≡ at = one_ok (round32 s.layout.length) at (place_past (space_of s) need) (rw t) e' in past (omega (arith, is))
     ]
 
 pub place_in_view : (start bytes : List ℕ) (live : Live) (s : State) (high : AreHigh s) (need at : ℕ) → StandsOn start bytes live s → place_for (space_of s) need ≡ Ok at

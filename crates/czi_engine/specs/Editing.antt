@@ -1,52 +1,80 @@
--- What an edit answers, and what it leaves.
-use Rattle.std.specs.Prelude.{◌≡◌, ◌⊎◌, ℕ, List, Bool, Option, None, Some, is_some, IfSome, IsErrAnd, Result, Ok, Err}
+-- What a command makes of an engine's state, and what an edit answers.
+use Rattle.std.specs.Prelude.{◌≡◌, ◌⊎◌, ℕ, List, Bool, Option, None, Some, IfSome, is_some, Result, Ok, Err, IsErrAnd}
 use Rattle.std.specs.Option.{ForSome}
+use Rattle.czi_format.specs.Document.{Document}
+use Rattle.czi_format.specs.Layout.{Layout, HasLayout}
 use Rattle.czi_format.specs.Live.{Live}
-use Rattle.czi_format.specs.Space.{fit}
+use Rattle.czi_image.specs.Applied.{IsSame}
 use Rattle.czi_machine.specs.Edit.{Edit, Refusal, no_key, full}
-use Rattle.czi_machine.specs.Machine.{after_edit}
+use Rattle.czi_machine.specs.Headline.{NoWriteTouches}
+use Rattle.czi_machine.specs.Machine.{after_edit, one_more}
 use Rattle.czi_machine.specs.State.{State as MachineState}
-use Rattle.czi_plan.specs.Directory.{directory_need}
-use Rattle.czi_plan.specs.Removal.{left_entries}
 use Rattle.czi_plan.specs.declared.plan.PlanFault.{PlanFault}
 use Rattle.czi_plan.specs.declared.plan.PlanFault.TheVariants.{Full as NoPlaceIn, Memory as NoMemory}
 use Rattle.czi_rig.specs.declared.file.File.TheVariants.{Image}
 use Rattle.czi_rig.specs.State.{State, Instant, seen_of}
-use Rattle.czi_space.specs.State.{space_of}
+use Rattle.czi_space.specs.State.{Has}
+use Rattle.czi_vault.specs.Alone.{IsPending}
 use Rattle.czi_vault.specs.Recovered.{Recovered}
 use Rattle.czi_vault.specs.declared.committing.VaultFault.{VaultFault}
 use Rattle.czi_vault.specs.declared.committing.VaultFault.TheVariants.{Image as ImageFails, Journal as JournalFails}
-use Rattle.czi_engine.specs.Stands.{OpensAs}
-use Rattle.czi_engine.specs.Standing.{HasState, KeepsItems}
-use Rattle.czi_engine.specs.declared.engine.Engine.{Engine}
+use Rattle.czi_engine.specs.Stands.{OpensAs, ShowsWhole}
+use Rattle.czi_engine.specs.Standing.{HasState, KeepsItems, Origin, origin_in}
 use Rattle.czi_engine.specs.Devices.{edit_device}
+use Rattle.czi_engine.specs.declared.engine.EngineState.{EngineState}
 use Rattle.czi_engine.specs.declared.error.EditError.{EditError}
 use Rattle.czi_engine.specs.declared.error.EditError.TheVariants.{NoKey, Full, Memory, ImageDevice, JournalDevice}
+
+-- what a command makes of a state, or why it is refused
+abbrev pub Goes : Type 0
+Goes = MachineState → Result MachineState Refusal
 
 -- the state after what the machine answered, or the one before
 abbrev pub or_before : MachineState → Result MachineState Refusal → MachineState
 or_before s (Ok after) = after
 or_before s (Err refusal) = s
 
+abbrev pub state_by : Goes → MachineState → MachineState
+state_by go s = or_before s (go s)
+
 abbrev pub state_after : MachineState → Edit → MachineState
 state_after s edit = or_before s (after_edit s edit)
 
--- image and journal open as a state, and each item of it has the bytes that it had at the start
-pub record OpensIn (start image journal : List ℕ) (s : MachineState) : Type 0 where
-  pub opens : OpensAs start image journal s
-  pub kept : (bytes : List ℕ) → Recovered image journal bytes → KeepsItems start bytes s.layout
+-- and the items that have been there since the start
+abbrev pub origin_after : Origin → Result MachineState Refusal → Origin
+origin_after o (Ok after) = origin_in o after
+origin_after o (Err refusal) = o
 
--- while an edit is done: what a crash leaves opens as the state before it or as the one after it, and nothing was said
-abbrev pub DuringEdit : List ℕ → MachineState → Edit → List ℕ → Instant
-DuringEdit start s edit before image journal said = (OpensIn start image journal s ⊎ OpensIn start image journal (state_after s edit)) × (said ≡ before)
+abbrev pub origin_by : Goes → Origin → MachineState → Origin
+origin_by go o s = origin_after o (go s)
 
--- an edit was accepted: the engine has the state to which the machine goes, and its number is answered
-pub record Accepts (edit : Edit) (start : List ℕ) (s : MachineState) (rig : State) (x : Engine) (number : ℕ) : Type 0 where
+-- image and journal open as a state, and each item of it that has been there since the start has the bytes that it had then
+pub record OpensIn (o : Origin) (image journal : List ℕ) (s : MachineState) : Type 0 where
+  pub opens : OpensAs o.bytes image journal s
+  pub kept : (bytes : List ℕ) → Recovered image journal bytes → KeepsItems o bytes s.layout
+
+-- read without the journal an image says that it waits for it, or it shows this document
+abbrev pub ShowsAlone : List ℕ → Document → Type 0
+ShowsAlone image d = IsPending image ⊎ ShowsWhole image d
+
+-- While a command is done: what a crash leaves opens as the state before it or as the one after it, and nothing was said. Read
+-- without the journal, the image waits for it, or shows the document of that state or of the one before.
+abbrev pub DuringEdit : Origin → MachineState → Goes → List ℕ → Instant
+DuringEdit o s go before image journal said = ((OpensIn o image journal s × ShowsAlone image s.document)
+    ⊎ (OpensIn (origin_by go o s) image journal (state_by go s) × (ShowsAlone image s.document ⊎ ShowsAlone image (state_by go s).document))) × (said ≡ before)
+
+-- two pairs that a crash may leave stand for the same bytes in each item that both have
+abbrev pub Alike : List ℕ → List ℕ → List ℕ → List ℕ → Type 0
+Alike image journal image' journal' = (a b : List ℕ) (l m : Layout) → Recovered image journal a → Recovered image' journal' b → HasLayout a l → HasLayout b m → NoWriteTouches a l b m
+
+-- A command was accepted: the engine has the state to which the machine goes, and its number is answered, one more than before.
+pub record Accepts (go : Goes) (o : Origin) (s : MachineState) (rig : State) (x : EngineState) (number : ℕ) : Type 0 where
   pub state : MachineState
-  pub goes : after_edit s edit ≡ Ok state
+  pub goes : go s ≡ Ok state
   pub numbered : number ≡ state.number
+  pub counted : number ≡ one_more s.number
   pub live : Live
-  pub has : ForSome (seen_of rig Image) (λ bytes. HasState start bytes live state x)
+  pub has : ForSome (seen_of rig Image) (λ bytes. HasState (origin_in o state) bytes live state x)
 
 -- what the machine refuses; the other errors tell nothing of it
 abbrev pub refusal_of : EditError → Option Refusal
@@ -56,12 +84,12 @@ refusal_of Memory = None
 refusal_of ImageDevice = None
 refusal_of JournalDevice = None
 
-abbrev pub Refuses : Edit → MachineState → EditError → Type 0
-Refuses edit s error = IfSome (refusal_of error) (λ refusal. after_edit s edit ≡ Err refusal)
+abbrev pub Refuses : Goes → MachineState → EditError → Type 0
+Refuses go s error = IfSome (refusal_of error) (λ refusal. go s ≡ Err refusal)
 
 -- where the machine refuses, so does the answer, or memory is wanting
-abbrev pub RefusesToo : {T : Type 0} → Edit → MachineState → Result T EditError → Type 0
-RefusesToo edit s result = (refusal : Refusal) → after_edit s edit ≡ Err refusal → IsErrAnd result (λ error. (refusal_of error ≡ Some refusal) ⊎ (error ≡ Memory))
+abbrev pub RefusesToo : {T : Type 0} → Goes → MachineState → Result T EditError → Type 0
+RefusesToo go s result = (refusal : Refusal) → go s ≡ Err refusal → IsErrAnd result (λ error. (refusal_of error ≡ Some refusal) ⊎ (error ≡ Memory))
 
 -- why there is no plan, as an edit's error
 abbrev pub unplanned : PlanFault → EditError
@@ -77,28 +105,11 @@ error_of JournalFails = JournalDevice
 abbrev pub is_device : EditError → Bool
 is_device error = is_some (edit_device error)
 
--- why a removal has no plan: its directory has no place, or memory is wanting
-abbrev pub HasNoPlan : Engine → ℕ → EditError → Type 0
-HasNoPlan x i (Full need length) = fit (space_of x.map) (directory_need (left_entries i x.index)) ≡ Err (record { need = need; length = length })
-HasNoPlan x i Memory = Unit {0}
-HasNoPlan x i NoKey = ⊥
-HasNoPlan x i ImageDevice = ⊥
-HasNoPlan x i JournalDevice = ⊥
-
--- all but the buffers of an edit is as it was
-pub record SameEngine (old new : Engine) : Type 0 where
+-- an engine is as it was; only how much spare memory its lists have may differ
+pub record AsBefore (old new : EngineState) : Type 0 where
   pub journal : new.journal ≡ old.journal
-  pub index : new.index ≡ old.index
-  pub map : new.map ≡ old.map
-  pub edits : new.edits ≡ old.edits
+  pub index : IsSame old.index new.index
+  pub map : Has new.map old.map.extents old.map.held old.map.length
+  pub edits : new.edits.items ≡ old.edits.items
   pub number : new.number ≡ old.number
   pub down : new.down ≡ old.down
-
--- all but the journal, its buffer and whether the engine is down is as it was
-pub record KeepsPlan (old new : Engine) : Type 0 where
-  pub index : new.index ≡ old.index
-  pub map : new.map ≡ old.map
-  pub region : new.region ≡ old.region
-  pub plan : new.plan ≡ old.plan
-  pub edits : new.edits ≡ old.edits
-  pub number : new.number ≡ old.number

@@ -1,34 +1,30 @@
 -- The laws of what an image and a journal open as, as statements.
 use Rattle.std.specs.List.{AllByRecursion}
-use Rattle.std.specs.Prelude.{◌≡◌, ◌+◌, ◌-◌, ◌⊎◌, ℕ, pos, List, [], ◌++◌, length, slice_index, Ok}
+use Rattle.std.specs.Prelude.{◌≡◌, ◌+◌, ◌-◌, ◌⊎◌, ℕ, List, [], length, slice_index, Ok}
+use Rattle.czi_commit.specs.Filled.{AreFree, filled}
+use Rattle.czi_commit.specs.Made.{Step}
 use Rattle.czi_format.specs.Bytes.{bytes_at}
-use Rattle.czi_format.specs.Entry.{Dim}
-use Rattle.czi_format.specs.Layout.{Place, Layout, HasLayout}
-use Rattle.czi_format.specs.Live.{Live, Directory, Tile, document}
+use Rattle.czi_format.specs.Layout.{HasLayout}
+use Rattle.czi_format.specs.Live.{Live, document}
 use Rattle.czi_format.specs.Shows.{Reaches}
 use Rattle.czi_format.specs.Space.{place_for}
 use Rattle.czi_format.specs.Span.{Span}
 use Rattle.czi_image.specs.Holds.{IsSettled}
 use Rattle.czi_links.specs.Record.{Bytes}
-use Rattle.czi_machine.specs.Change.{into, out}
-use Rattle.czi_machine.specs.Edit.{remove}
-use Rattle.czi_machine.specs.Machine.{after_edit, after_undo}
 use Rattle.czi_machine.specs.Places.{space_of}
-use Rattle.czi_machine.specs.Removal.{with_directory}
-use Rattle.czi_machine.specs.State.{Former, State, held}
+use Rattle.czi_machine.specs.State.{State, held}
 use Rattle.czi_machine.specs.Turn.{Turn, turned}
-use Rattle.czi_machine.specs.Written.{Wrote, IsZeros}
+use Rattle.czi_machine.specs.Written.{Wrote}
 use Rattle.czi_rig.specs.Disk.{Covers, SameOutside, IsAtRest}
 use Rattle.czi_rig.specs.Moments.{Devices}
 use Rattle.czi_vault.specs.Alone.{Alone, IsPending, HasBytesBut100}
 use Rattle.czi_vault.specs.Puts.{ranges}
 use Rattle.czi_vault.specs.Recovered.{Recovered, Stands, StandsNow, StandsOr, IsFree}
-use Rattle.czi_engine.specs.Commit.{piece_of, BeginWithin, Step, written, made_of, pieces_in, IsStep, IsPlanned, IsRemoval, removed}
-use Rattle.czi_engine.specs.Free.{LiesFree, HoldsUsable, AreFree}
+use Rattle.czi_engine.specs.Commit.{written, made_of, pieces_in, IsStep, IsPlanned}
+use Rattle.czi_engine.specs.Free.{LiesFree, HoldsUsable}
 use Rattle.czi_engine.specs.Holes.{holes_of, AreHigh, view_of}
 use Rattle.czi_engine.specs.Moment.{AlikeInItems, BringsApart}
 use Rattle.czi_engine.specs.Rests.{RestsOn}
-use Rattle.czi_engine.specs.Return.{IsReturn, returned}
 use Rattle.czi_engine.specs.Stands.{Opens, OpensAs, ShowsWhole, EitherSide, StandsOn}
 
 -- the holes of a state in bytes are high
@@ -86,23 +82,14 @@ abbrev pub CommitOpens : Type 0
 CommitOpens = (start bytes image journal : List ℕ) (live : Live) (s s' : State) (t : Turn) (c : Step) (high : AreHigh s) → StandsOn start bytes live s → IsPlanned bytes live s s' t c → IsStep bytes c
     → StandsOr (view_of bytes s high) (made_of c bytes) image journal → EitherSide start image journal s s'
 
--- the same of a removal
-abbrev pub RemovalStands : Type 0
-RemovalStands = (start bytes : List ℕ) (live : Live) (s : State) (dims : List Dim) (i : ℕ) (d : Directory) (c : Step) → StandsOn start bytes live s → IsRemoval live s dims i d c → IsStep bytes c
-    → (after_edit s (remove dims) ≡ Ok (removed s i d.segment.at)) × StandsOn start (made_of c bytes) (turned (with_directory d (out i)) live) (removed s i d.segment.at)
-
-abbrev pub RemovalOpens : Type 0
-RemovalOpens = (start bytes image journal : List ℕ) (live : Live) (s : State) (dims : List Dim) (i : ℕ) (d : Directory) (c : Step) (high : AreHigh s) → StandsOn start bytes live s → IsRemoval live s dims i d c → IsStep bytes c
-    → StandsOr (view_of bytes s high) (made_of c bytes) image journal → EitherSide start image journal s (removed s i d.segment.at)
-
 -- writes into free space are free in the view of a state, whether all spans of formers are held or those that can be used again
 abbrev pub FreeInView : Type 0
 FreeInView = (start bytes : List ℕ) (live : Live) (s : State) (high : AreHigh s) (held' : List Span) (writes : List Bytes) → StandsOn start bytes live s → HoldsUsable s held'
     → AllByRecursion (λ (w : Bytes). LiesFree held' s.layout.deleted s.layout.length w.place (length w.bytes)) writes → AreFree (view_of bytes s high) writes
 
--- so are zeros behind the end
-abbrev pub ZerosInView : Type 0
-ZerosInView = (bytes : List ℕ) (s : State) (high : AreHigh s) (zeros : List Bytes) → AllByRecursion (λ (z : Bytes). IsZeros bytes (piece_of z)) zeros → AreFree (view_of bytes s high) zeros
+-- so they are with the zeros that fill the gaps behind the end
+abbrev pub FilledInView : Type 0
+FilledInView = (bytes : List ℕ) (s : State) (high : AreHigh s) (writes : List Bytes) → AreFree (view_of bytes s high) writes → AreFree (view_of bytes s high) (filled (length bytes) writes)
 
 -- and the data of a new segment where its need fits first: all but its header
 abbrev pub PlaceInView : Type 0
@@ -114,34 +101,10 @@ abbrev pub CommitTouches : Type 0
 CommitTouches = (start bytes : List ℕ) (live : Live) (s s' : State) (t : Turn) (c : Step) (high : AreHigh s) → StandsOn start bytes live s → IsPlanned bytes live s s' t c → IsStep bytes c → BringsApart live t
     → AlikeInItems (view_of bytes s high) (made_of c bytes)
 
-abbrev pub RemovalTouches : Type 0
-RemovalTouches = (start bytes : List ℕ) (live : Live) (s : State) (dims : List Dim) (i : ℕ) (d : Directory) (c : Step) (high : AreHigh s) → StandsOn start bytes live s → IsRemoval live s dims i d c → IsStep bytes c
-    → AlikeInItems (view_of bytes s high) (made_of c bytes)
-
 -- free writes leave the bytes of the view
 abbrev pub WrittenHasBytes : Type 0
-WrittenHasBytes = (bytes : List ℕ) (s : State) (high : AreHigh s) (c : Step) → BeginWithin (length bytes) (c.zeros ++ c.writes) → AreFree (view_of bytes s high) (c.zeros ++ c.writes)
-    → HasBytesBut100 (view_of bytes s high) (written c bytes)
+WrittenHasBytes = (bytes : List ℕ) (s : State) (high : AreHigh s) (c : Step) → AreFree (view_of bytes s high) (filled (length bytes) c.writes) → HasBytesBut100 (view_of bytes s high) (written c bytes)
 
 -- no link of a planned command is written over the first byte of UpdatePending
 abbrev pub CommitLeaves100 : Type 0
 CommitLeaves100 = (start bytes : List ℕ) (live : Live) (s s' : State) (t : Turn) (c : Step) → StandsOn start bytes live s → IsPlanned bytes live s s' t c → Covers (ranges c.commits.links) 100 → ⊥
-
-abbrev pub RemovalLeaves100 : Type 0
-RemovalLeaves100 = (start bytes : List ℕ) (live : Live) (s : State) (dims : List Dim) (i : ℕ) (d : Directory) (c : Step) → StandsOn start bytes live s → IsRemoval live s dims i d c → IsStep bytes c
-    → Covers (ranges c.commits.links) 100 → ⊥
-
--- the undo of a removal
-abbrev pub ReturnStands : Type 0
-ReturnStands = (start bytes : List ℕ) (live : Live) (s : State) (formers : List Former) (i : ℕ) (p : Place) (x : Tile) (d : Directory) (l' : Layout) (c : Step) → StandsOn start bytes live s
-    → IsReturn start bytes live s formers i p x d l' c → IsStep bytes c
-    → (after_undo s ≡ Ok (returned bytes s formers i p x l')) × StandsOn start (made_of c bytes) (turned (with_directory d (into i x)) live) (returned bytes s formers i p x l')
-
-abbrev pub ReturnOpens : Type 0
-ReturnOpens = (start bytes image journal : List ℕ) (live : Live) (s : State) (formers : List Former) (i : ℕ) (p : Place) (x : Tile) (d : Directory) (l' : Layout) (c : Step) (high : AreHigh s) → StandsOn start bytes live s
-    → IsReturn start bytes live s formers i p x d l' c → IsStep bytes c
-    → StandsOr (view_of bytes s high) (made_of c bytes) image journal → EitherSide start image journal s (returned bytes s formers i p x l')
-
-abbrev pub ReturnTouches : Type 0
-ReturnTouches = (start bytes : List ℕ) (live : Live) (s : State) (formers : List Former) (i : ℕ) (p : Place) (x : Tile) (d : Directory) (l' : Layout) (c : Step) (high : AreHigh s) → StandsOn start bytes live s
-    → IsReturn start bytes live s formers i p x d l' c → IsStep bytes c → AlikeInItems (view_of bytes s high) (made_of c bytes)

@@ -1,13 +1,13 @@
 -- What an engine stands on.
-use Rattle.std.specs.Prelude.{◌≡◌, ℕ, ◌≤◌, List, [], ◌∷◌, map, filter, length, false, Option, None, Some, option_to_list}
+use Rattle.std.specs.Prelude.{◌≡◌, ℕ, ◌≤◌, List, [], ◌∷◌, map, filter, length, Bool, false, IsTrue, Option, None, Some, option_to_list}
 use Rattle.std.specs.Option.{ForSome}
-use Rattle.std.specs.List.{AllByRecursion}
+use Rattle.std.specs.List.{AllByRecursion, list_any}
 use Rattle.czi_format.specs.Bytes.{bytes_at}
 use Rattle.czi_format.specs.Layout.{Layout, HasLayout}
 use Rattle.czi_format.specs.Live.{Live, document}
 use Rattle.czi_format.specs.Shows.{Reaches}
 use Rattle.czi_format.specs.Span.{Span}
-use Rattle.czi_format.specs.Space.{with_held}
+use Rattle.czi_format.specs.Space.{same_span, with_held}
 use Rattle.czi_machine.specs.Places.{can_be_used}
 use Rattle.czi_machine.specs.State.{Items, Former, State as MachineState, items_of, item_places, item_spans, spans_of, not_among}
 use Rattle.czi_num.specs.Span.{span_of}
@@ -15,7 +15,7 @@ use Rattle.czi_num.specs.declared.span.Span.{Span as CodeSpan}
 use Rattle.czi_rig.specs.declared.file.File.TheVariants.{Image, Journal}
 use Rattle.czi_rig.specs.Disk.{Disk, Left, Everywhere, IsAtRest}
 use Rattle.czi_rig.specs.State.{State, known, seen_of}
-use Rattle.czi_rig.specs.Moments.{Devices, devices}
+use Rattle.czi_rig.specs.Moments.{devices}
 use Rattle.czi_image.specs.Holds.{Holds, LiesAs}
 use Rattle.czi_links.specs.declared.head.SlotHead.{SlotHead}
 use Rattle.czi_opening.specs.declared.opening.Opened.{Opened}
@@ -23,7 +23,7 @@ use Rattle.czi_opening.specs.Answers.{IsJournal}
 use Rattle.czi_space.specs.State.{Has, IsWhole}
 use Rattle.czi_vault.specs.Recovered.{Recovered}
 use Rattle.czi_engine.specs.Stands.{StandsOn}
-use Rattle.czi_engine.specs.declared.engine.Engine.{Engine}
+use Rattle.czi_engine.specs.declared.engine.EngineState.{EngineState}
 
 -- the spans that edits hold back, in order of place
 abbrev pub held_by : List (Option CodeSpan) → List Span
@@ -36,30 +36,50 @@ abbrev pub AreWhole : List (Option CodeSpan) → Type 0
 AreWhole edits = AllByRecursion (λ (e : Option CodeSpan). ForSome e (λ s. IsWhole (span_of s))) edits
 
 -- the map has the extents and the length of the index, and holds back what the edits do
-abbrev pub HasItsMap : Engine → Type 0
+abbrev pub HasItsMap : EngineState → Type 0
 HasItsMap x = Has x.map (map span_of x.index.extents.items) (held_by x.edits.items) x.index.length
 
 -- An edit holds back what the former document before it has and the next newer one hasn't, as far as that can be used again.
--- The newest edit, and the newest former, stand first.
+-- Each former takes one edit back. The newest edit, and the newest former, stand first.
 abbrev pub HoldBack : Items → List Former → List (Option CodeSpan) → Type 0
 HoldBack newer [] [] = Unit {0}
 HoldBack newer [] (e ∷ edits) = ⊥
 HoldBack newer (f ∷ formers) [] = ⊥
-HoldBack newer (f ∷ formers) (e ∷ edits) = (map span_of (option_to_list e) ≡ spans_of (filter can_be_used (not_among (item_spans newer) (item_places f.items)))) × HoldBack f.items formers edits
+HoldBack newer (f ∷ formers) (e ∷ edits) = (map span_of (option_to_list e) ≡ spans_of (filter can_be_used (not_among (item_spans newer) (item_places f.items)))) × (f.edits ≡ 1) × HoldBack f.items formers edits
 
--- each item has the bytes that it had at the start, header and padding included
-abbrev pub KeepsItems : (start bytes : List ℕ) → Layout → Type 0
-KeepsItems start bytes l = AllByRecursion (λ (s : Span). bytes_at bytes s.at s.len ≡ bytes_at start s.at s.len) (item_spans (items_of l))
+-- the bytes at the start, and the items that have been there since
+pub record Origin : Type 0 where
+  pub bytes : List ℕ
+  pub items : List Span
+
+-- all items, at the start
+abbrev pub origin_of : List ℕ → MachineState → Origin
+origin_of bytes s = record { bytes = bytes; items = item_spans (items_of s.layout) }
+
+abbrev pub is_among : List Span → Span → Bool
+is_among spans x = list_any (same_span x) spans
+
+-- those that are items of a state too
+abbrev pub origin_in : Origin → MachineState → Origin
+origin_in o s = record { bytes = o.bytes; items = filter (is_among (item_spans (items_of s.layout))) o.items }
+
+-- an item that has been there since the start: it has the bytes that it had then, header and padding included
+pub record IsKept (o : Origin) (bytes : List ℕ) (l : Layout) (x : Span) : Type 0 where
+  pub there : IsTrue (is_among (item_spans (items_of l)) x)
+  pub same : bytes_at bytes x.at x.len ≡ bytes_at o.bytes x.at x.len
+
+abbrev pub KeepsItems : Origin → (bytes : List ℕ) → Layout → Type 0
+KeepsItems o bytes l = AllByRecursion (IsKept o bytes l) o.items
 
 -- An engine has a state that stands on these bytes: its index holds what is live and has the state's layout, and its edits
--- hold back what undos may bring back. No item was written into since the start.
-pub record HasState (start bytes : List ℕ) (live : Live) (s : MachineState) (x : Engine) : Type 0 where
-  pub stands : StandsOn start bytes live s
+-- hold back what undos may bring back. No item was written into that has been there since the start.
+pub record HasState (o : Origin) (bytes : List ℕ) (live : Live) (s : MachineState) (x : EngineState) : Type 0 where
+  pub stands : StandsOn o.bytes bytes live s
   pub holds : Holds live x.index
   pub lies : LiesAs s.layout x.index
   pub edits : HoldBack (items_of s.layout) s.formers x.edits.items
   pub number : x.number ≡ s.number
-  pub kept : KeepsItems start bytes s.layout
+  pub kept : KeepsItems o bytes s.layout
 
 -- A state of these bytes as it is when they are opened: their document in their layout, and no formers.
 pub record IsFresh (bytes : List ℕ) (count : ℕ) (s : MachineState) : Type 0 where
@@ -71,12 +91,12 @@ pub record IsFresh (bytes : List ℕ) (count : ℕ) (s : MachineState) : Type 0 
   pub number : s.number ≡ count
 
 -- the engine has the state of the image, as it is when it is opened
-abbrev pub IsOpened : State → Engine → Type 0
-IsOpened state x = ForSome (seen_of state Image) (λ bytes. (s : MachineState) → IsFresh bytes x.number s → (live : Live) × HasState bytes bytes live s x)
+abbrev pub IsOpened : State → EngineState → Type 0
+IsOpened state x = ForSome (seen_of state Image) (λ bytes. (s : MachineState) → IsFresh bytes x.number s → (live : Live) × HasState (origin_of bytes s) bytes live s x)
 
 -- some state
-pub record HasSome (bytes : List ℕ) (x : Engine) : Type 0 where
-  pub start : List ℕ
+pub record HasSome (bytes : List ℕ) (x : EngineState) : Type 0 where
+  pub start : Origin
   pub live : Live
   pub state : MachineState
   pub has : HasState start bytes live state x
@@ -87,7 +107,7 @@ IsItself image journal = (i j : List ℕ) → Left image.durable i → Left jour
 
 -- The image is on the disk, it is what both files stand for, and the engine has a state that stands on it. The journal counts
 -- with the slot that the engine selects, or it is void and on the disk. What a device doesn't tell may be anything.
-pub record StandsOnRig (s : State) (x : Engine) : Type 0 where
+pub record StandsOnRig (s : State) (x : EngineState) : Type 0 where
   pub image : ForSome (known s Image) IsAtRest
   pub itself : ForSome (devices s) (λ all. IsItself all.image all.journal)
   pub state : ForSome (seen_of s Image) (λ bytes. HasSome bytes x)
@@ -98,12 +118,12 @@ pub record StandsOnRig (s : State) (x : Engine) : Type 0 where
   pub few : length x.edits.items ≤ 32
 
 -- the engine has the index and the journal that an opening answered, and no edits
-pub record IsOf (o : Opened) (x : Engine) : Type 0 where
+pub record IsOf (o : Opened) (x : EngineState) : Type 0 where
   pub journal : x.journal ≡ o.journal
   pub index : x.index ≡ o.index
   pub own_map : HasItsMap x
   pub edits : x.edits.items ≡ []
 
 -- the image's GUID and its length
-abbrev pub file_of : Engine → SlotHead
+abbrev pub file_of : EngineState → SlotHead
 file_of x = record { guid = bytes_at x.index.header.identity 32 16; length = x.index.length }

@@ -8,67 +8,80 @@ use czi_num::Span;
 use czi_plan::EditPlan;
 use czi_region::Region;
 use czi_space::Map;
+use std::alloc::Global;
+
+/// What an engine stands on.
+#[derive(Drop)]
+pub(crate) struct EngineState {
+    pub(crate) journal: Journal,
+    pub(crate) index: Index,
+    pub(crate) map: Map,
+    /// The span that each of the last 32 accepted edits holds back, if it holds one. The newest edit is the first.
+    pub(crate) edits: Vec<Option<Span>>,
+    pub(crate) number: u64,
+    pub(crate) down: bool,
+}
+
+/// Memory that is kept from edit to edit, and where more of it comes from: the bytes of new segments, their plan, and a slot of the journal before it
+/// is written.
+#[derive(Drop)]
+pub(crate) struct Scratch {
+    pub(crate) alloc: Global,
+    pub(crate) region: Region,
+    pub(crate) plan: EditPlan,
+    pub(crate) slot: Vec<u8>,
+    pub ghost whole: { vec_len slot ≡ 262144 },
+}
 
 /// An image beside its journal, both opened on a rig. Every call that takes a rig is to be given the one on which the
 /// engine was opened.
 #[derive(Drop)]
 pub struct Engine {
-    pub(crate) journal: Journal,
-    pub(crate) index: Index,
-    pub(crate) map: Map,
-    /// The bytes of new segments, and their plan. Their memory is kept from edit to edit.
-    pub(crate) region: Region,
-    pub(crate) plan: EditPlan,
-    /// A slot of the journal, before it is written.
-    pub(crate) slot: Vec<u8>,
-    /// The span that each of the last 32 accepted edits holds back, if it holds one. The newest edit is the first.
-    pub(crate) edits: Vec<Option<Span>>,
-    pub(crate) number: u64,
-    pub(crate) down: bool,
-    pub ghost whole: { vec_len slot ≡ 262144 },
+    pub(crate) state: EngineState,
+    pub(crate) scratch: Scratch,
 }
 
 impl Engine {
     /// What the image holds, and where it lies.
     pub fn index(&self) -> &Index
-        ensures { result.now ≡ self.now.index }
+        ensures { result.now ≡ self.now.state.index }
     {
-        &self.index
+        &self.state.index
     }
 
     /// The subblocks, in the order of the directory.
     pub fn entries(&self) -> &[Tile]
-        ensures { result.now ≡ self.now.index.tiles.items }
+        ensures { result.now ≡ self.now.state.index.tiles.items }
     {
-        &self.index.tiles
+        &self.state.index.tiles
     }
 
     /// The map of free space.
     pub fn map(&self) -> &Map
-        ensures { result.now ≡ self.now.map }
+        ensures { result.now ≡ self.now.state.map }
     {
-        &self.map
+        &self.state.map
     }
 
     /// The image's length, in bytes.
     pub fn length(&self) -> u64
-        ensures { result ≡ self.now.index.length }
+        ensures { result ≡ self.now.state.index.length }
     {
-        self.index.length
+        self.state.index.length
     }
 
     /// How many edits were accepted since the engine was opened first.
     pub fn number(&self) -> u64
-        ensures { result ≡ self.now.number }
+        ensures { result ≡ self.now.state.number }
     {
-        self.number
+        self.state.number
     }
 
     /// Whether a device failed in a call on this engine, or opening it again was refused, and it wasn't opened again
     /// since. Only `reopen` may be called then.
     pub fn down(&self) -> bool
-        ensures { result ≡ self.now.down }
+        ensures { result ≡ self.now.state.down }
     {
-        self.down
+        self.state.down
     }
 }

@@ -2,13 +2,13 @@
 //! state of the machine of edits in an image beside its journal, and the laws of one commit.
 #![tactic(auto)]
 
-ghost use Rattle.czi_engine.specs.Laws.{DocumentOpens, ItselfRests, RestsStands, HeldStays, AloneShows, WrittenHasBytes, CommitLeaves100, RemovalLeaves100, HolesAreHigh, StandsOutside, RecoveredOpens, ViewOpens, OpenedStands, MadeWrote, CommitStands, CommitOpens, RemovalStands, RemovalOpens, FreeInView, ZerosInView, PlaceInView, ReturnStands, ReturnOpens, CommitTouches, RemovalTouches, ReturnTouches};
-ghost use Rattle.czi_engine.specs.Removing.{RemovalIsStep, RefusalsAgree, RemovalHas};
+ghost use Rattle.czi_engine.specs.Laws.{DocumentOpens, ItselfRests, RestsStands, HeldStays, AloneShows, WrittenHasBytes, CommitLeaves100, HolesAreHigh, StandsOutside, RecoveredOpens, ViewOpens, OpenedStands, MadeWrote, CommitStands, CommitOpens, FreeInView, FilledInView, PlaceInView, CommitTouches};
 
+mod accepting;
 mod carrying;
+mod editing;
 mod engine;
 mod error;
-mod next;
 mod opening;
 mod removing;
 
@@ -45,32 +45,18 @@ pub fn one_commit()
     ensures opens { CommitOpens }
 {}
 
-/// The same of a removal.
-pub fn one_removal()
-    ensures stands { RemovalStands }
-    ensures opens { RemovalOpens }
-{}
-
-/// The same of the undo of a removal.
-pub fn one_return()
-    ensures stands { ReturnStands }
-    ensures opens { ReturnOpens }
-{}
-
 /// What is written before a commit goes where nothing needs the bytes of the view: into free space, or
 /// past the end.
 pub fn writes_are_free()
     ensures writes { FreeInView }
-    ensures zeros { ZerosInView }
+    ensures filled { FilledInView }
     ensures place { PlaceInView }
 {}
 
 /// Any two pairs that a crash may leave at one moment of a command stand for the same bytes in each
 /// item extent that both have, header and padding included: no write touches it.
 pub fn no_write_touches()
-    ensures commit { CommitTouches }
-    ensures removal { RemovalTouches }
-    ensures returned { ReturnTouches }
+    ensures { CommitTouches }
 {}
 
 /// Read without the journal, an image that a crash leaves shows a document of one side, or it says
@@ -79,14 +65,4 @@ pub fn images_alone()
     ensures shows { AloneShows }
     ensures written { WrittenHasBytes }
     ensures commit { CommitLeaves100 }
-    ensures removal { RemovalLeaves100 }
-{}
-
-/// The plan of a removal, as an engine uses it, is a step of the machine; what refuses the one refuses
-/// the other; and the engine that has the index, the edits and the number afterwards has the state to
-/// which the removal leads.
-pub fn removals_step()
-    ensures step { RemovalIsStep }
-    ensures refused { RefusalsAgree }
-    ensures has { RemovalHas }
 {}

@@ -2,13 +2,13 @@
 
 ghost use Rattle.std.specs.Prelude.{◌≡◌, [], Err, List, ℕ, map, true, false, IfOk, IfErr, OnOk, OnErr, IsFalse};
 ghost use Rattle.std.specs.Option.{ForSome};
-ghost use Rattle.czi_journal.specs.Journals.{slot_of};
+ghost use Rattle.czi_journal.specs.Journals.{SaysAsBeforeOrVoid, slot_of};
 ghost use Rattle.czi_links.specs.Reading.{Void};
 ghost use Rattle.czi_num.specs.Span.{span_of};
 ghost use Rattle.czi_opening.specs.Answers.{AreRecovered, Tells};
 ghost use Rattle.czi_opening.specs.Devices.{open_device};
 ghost use Rattle.czi_opening.specs.Course.{From, OpensFrom, Stays};
-ghost use Rattle.czi_rig.specs.Disk.{Everywhere, IsAtRest};
+ghost use Rattle.czi_rig.specs.Disk.{Everywhere, IsAtRest, Left};
 ghost use Rattle.czi_rig.specs.State.{LeavesOther, known, seen_of};
 ghost use Rattle.czi_rig.specs.Passes.{GoesOn};
 ghost use Rattle.czi_rig.specs.Faults.{Faults, device_of, failed_at, fault_at};
@@ -18,7 +18,7 @@ ghost use Rattle.czi_space.specs.State.{Has};
 ghost use Rattle.czi_vault.specs.Recovered.{Recovered};
 ghost use Rattle.czi_engine.specs.Standing.{IsOf, IsOpened, StandsOnRig};
 
-use crate::engine::Engine;
+use crate::engine::{Engine, EngineState, Scratch};
 use czi_image::Index;
 use czi_journal::SLOT_LEN;
 use czi_opening::{OpenError, Opened, close, open};
@@ -51,16 +51,17 @@ impl Engine {
         // The image becomes what both files stood for, the journal stays. Both are on the disk, and the engine stands on them.
         ensures recovered { OnOk result (ForSome (seen_of (R.state rig.old) File.Image) (λ image. ForSome (seen_of (R.state rig.old) File.Journal) (λ journal.
             AreRecovered image journal (R.state rig.new)))) }
-        ensures stands { IfOk result (StandsOnRig (R.state rig.new)) }
-        ensures fresh { IfOk result (IsOpened (R.state rig.new)) }
-        ensures up { IfOk result (λ e. e.down ≡ false) }
-        ensures no_edits { IfOk result (λ e. (e.edits.items ≡ []) × (e.number ≡ 0)) }
+        ensures stands { IfOk result (λ e. StandsOnRig (R.state rig.new) e.state) }
+        ensures fresh { IfOk result (λ e. IsOpened (R.state rig.new) e.state) }
+        ensures up { IfOk result (λ e. e.state.down ≡ false) }
+        ensures no_edits { IfOk result (λ e. (e.state.edits.items ≡ []) × (e.state.number ≡ 0)) }
         // A refusal tells its cause; there is one exactly where the files don't open.
         ensures refused { IfErr result (λ error. ForSome (seen_of (R.state rig.old) File.Image) (λ image. ForSome (seen_of (R.state rig.old) File.Journal) (λ journal.
             Tells image journal (R.state rig.new) error))) }
         // Until both files are synced nothing is left that the start couldn't leave. From then on each pair stands for what the start did.
         ensures moments { OnOk result (ForSome (devices (R.state rig.old)) (λ all. From R.Rig rig.old rig.new (Stays all))) }
         ensures meanwhile { IfErr result (λ error. ForSome (devices (R.state rig.old)) (λ all. OpensFrom R.Rig rig.old rig.new (Stays all) (Err error))) }
+        ensures journal { seen_of (R.state rig.new) File.Journal ≡ seen_of (R.state rig.old) File.Journal }
         ensures said { (R.state rig.new).said ≡ (R.state rig.old).said }
         ensures goes_on { GoesOn (R.state rig.old) (R.state rig.new) }
         ensures cause { Faults (fault_at open_device result) (R.state rig.old) (R.state rig.new) }
@@ -74,24 +75,28 @@ impl Engine {
 
     /// The engine of files that were opened.
     fn of(alloc: Global, opened: Opened) -> Result<Engine, AllocError>
-        ensures of { IfOk result (λ e. IsOf opened e) }
-        ensures up { IfOk result (λ e. e.down ≡ false) }
-        ensures no_edits { IfOk result (λ e. (e.edits.items ≡ []) × (e.number ≡ 0)) }
+        ensures of { IfOk result (λ e. IsOf opened e.state) }
+        ensures up { IfOk result (λ e. e.state.down ≡ false) }
+        ensures no_edits { IfOk result (λ e. (e.state.edits.items ≡ []) × (e.state.number ≡ 0)) }
     {
         let map = map_of(alloc, &opened.index)?;
         let slot = vec![in alloc; 0u8; SLOT_LEN]?;
         let edits = Vec::with_capacity(alloc, EDITS)?;
-        Ok(Engine {
+        let state = EngineState {
             journal: opened.journal,
             index: opened.index,
             map,
-            region: Region::new(alloc),
-            plan: EditPlan::new(alloc),
-            slot,
             edits,
             number: 0,
             down: false,
-        })
+        };
+        let scratch = Scratch {
+            alloc,
+            region: Region::new(alloc),
+            plan: EditPlan::new(alloc),
+            slot,
+        };
+        Ok(Engine { state, scratch })
     }
 
     /// Opens the image beside its journal again, as `open` does. No edit holds a span back any more.
@@ -99,15 +104,15 @@ impl Engine {
     /// # Errors
     ///
     /// Those of `open`. The engine is then down.
-    pub fn reopen<R: Rig>(&mut self, alloc: Global, rig: &mut R) -> Result<(), OpenError>
+    pub fn reopen<R: Rig>(&mut self, rig: &mut R) -> Result<(), OpenError>
         ensures recovered { OnOk result (ForSome (seen_of (R.state rig.old) File.Image) (λ image. ForSome (seen_of (R.state rig.old) File.Journal) (λ journal.
             AreRecovered image journal (R.state rig.new)))) }
-        ensures stands { OnOk result (StandsOnRig (R.state rig.new) self.new) }
-        ensures fresh { OnOk result (IsOpened (R.state rig.new) self.new) }
-        ensures up { OnOk result (self.new.down ≡ false) }
-        ensures down { OnErr result (self.new.down ≡ true) }
-        ensures no_edits { OnOk result (self.new.edits.items ≡ []) }
-        ensures number { self.new.number ≡ self.old.number }
+        ensures stands { OnOk result (StandsOnRig (R.state rig.new) self.new.state) }
+        ensures fresh { OnOk result (IsOpened (R.state rig.new) self.new.state) }
+        ensures up { OnOk result (self.new.state.down ≡ false) }
+        ensures down { OnErr result (self.new.state.down ≡ true) }
+        ensures no_edits { OnOk result (self.new.state.edits.items ≡ []) }
+        ensures number { self.new.state.number ≡ self.old.state.number }
         ensures refused { IfErr result (λ error. ForSome (seen_of (R.state rig.old) File.Image) (λ image. ForSome (seen_of (R.state rig.old) File.Journal) (λ journal.
             Tells image journal (R.state rig.new) error))) }
         ensures moments { OnOk result (ForSome (devices (R.state rig.old)) (λ all. From R.Rig rig.old rig.new (Stays all))) }
@@ -116,27 +121,27 @@ impl Engine {
         ensures goes_on { GoesOn (R.state rig.old) (R.state rig.new) }
         ensures cause { Faults (fault_at open_device result) (R.state rig.old) (R.state rig.new) }
     {
-        self.down = true;
-        let again = open(alloc, rig)?;
-        match self.restart(alloc, again) {
+        self.state.down = true;
+        let again = open(self.scratch.alloc, rig)?;
+        match self.restart(again) {
             Ok(()) => Ok(()),
             Err(AllocError) => Err(OpenError::Memory),
         }
     }
 
     /// Goes on with files that were opened again.
-    fn restart(&mut self, alloc: Global, opened: Opened) -> Result<(), AllocError>
-        ensures of { OnOk result (IsOf opened self.new) }
-        ensures up { OnOk result (self.new.down ≡ false) }
-        ensures no_edits { OnOk result (self.new.edits.items ≡ []) }
-        ensures number { self.new.number ≡ self.old.number }
+    fn restart(&mut self, opened: Opened) -> Result<(), AllocError>
+        ensures of { OnOk result (IsOf opened self.new.state) }
+        ensures up { OnOk result (self.new.state.down ≡ false) }
+        ensures no_edits { OnOk result (self.new.state.edits.items ≡ []) }
+        ensures number { self.new.state.number ≡ self.old.state.number }
         ensures same { OnErr result (self.new ≡ self.old) }
     {
-        self.map = map_of(alloc, &opened.index)?;
-        self.index = opened.index;
-        self.journal = opened.journal;
-        self.edits.clear();
-        self.down = false;
+        self.state.map = map_of(self.scratch.alloc, &opened.index)?;
+        self.state.index = opened.index;
+        self.state.journal = opened.journal;
+        self.state.edits.clear();
+        self.state.down = false;
         Ok(())
     }
 
@@ -147,18 +152,21 @@ impl Engine {
     ///
     /// `Failed` where a call on the journal failed. A later opening gives the same document.
     pub fn seal<R: Rig>(self, rig: &mut R) -> Result<(), Failed>
-        requires stands { StandsOnRig (R.state rig.old) self }
-        requires up { IsFalse self.down }
+        requires stands { StandsOnRig (R.state rig.old) self.state }
+        requires up { IsFalse self.state.down }
 
         // Each pair of files that a crash leaves stands for the image.
         ensures moments { ForSome (devices (R.state rig.old)) (λ all. Throughout R.Rig rig.old rig.new (λ image journal said. Recovered image journal all.image.seen × (said ≡ all.said))) }
+        // The journal says what it said, or is void; the image is left alone.
+        ensures leaves { ForSome (devices (R.state rig.old)) (λ all. Throughout R.Rig rig.old rig.new (λ image journal said.
+            Left all.image.durable image × SaysAsBeforeOrVoid all.journal.durable journal × (said ≡ all.said))) }
         ensures closed { OnOk result (ForSome (known (R.state rig.new) File.Journal) (Everywhere (λ bytes. slot_of bytes ≡ Void))) }
         ensures synced { OnOk result (ForSome (known (R.state rig.new) File.Journal) IsAtRest) }
-        ensures idle { self.journal.armed ≡ false → Untouched R.Rig rig.old rig.new }
+        ensures idle { self.state.journal.armed ≡ false → Untouched R.Rig rig.old rig.new }
         ensures other { LeavesOther File.Journal (R.state rig.old) (R.state rig.new) }
         ensures goes_on { GoesOn (R.state rig.old) (R.state rig.new) }
         ensures cause { Faults (failed_at result (device_of File.Journal)) (R.state rig.old) (R.state rig.new) }
     {
-        close(rig, self.journal)
+        close(rig, self.state.journal)
     }
 }

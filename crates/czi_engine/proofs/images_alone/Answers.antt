@@ -1,4 +1,4 @@
-use Rattle.czi_engine.proofs.Reading.{alone_shows, written_has, commit_leaves, removal_leaves}
+use Rattle.czi_engine.proofs.Reading.{alone_shows, written_has, commit_leaves}
 use Rattle.czi_engine.proofs.images_alone.Goals as goal
 
 pub returns-clause-shows : goal.returns-clause-shows
@@ -9,6 +9,3 @@ returns-clause-written c = written_has
 
 pub returns-clause-commit : goal.returns-clause-commit
 returns-clause-commit c = commit_leaves
-
-pub returns-clause-removal : goal.returns-clause-removal
-returns-clause-removal c = removal_leaves

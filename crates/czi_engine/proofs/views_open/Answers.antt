@@ -1,7 +1,6 @@
-use Rattle.czi_engine.proofs.Held.{document_opens, itself_rests, rests_stands, held_stays}
+use Rattle.czi_engine.proofs.Keeping.{document_opens, itself_rests, rests_stands, held_stays}
 use Rattle.czi_engine.proofs.Openable.{recovered_opens, view_opens}
-use Rattle.czi_engine.proofs.Outside.{stands_outside}
-use Rattle.czi_engine.proofs.Ranges.{holes_high}
+use Rattle.czi_engine.proofs.Outside.{stands_outside, holes_high}
 use Rattle.czi_engine.proofs.views_open.Goals as goal
 
 pub returns-clause-high : goal.returns-clause-high

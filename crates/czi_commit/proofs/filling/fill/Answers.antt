@@ -9,7 +9,8 @@ use Rattle.czi_links.specs.Record.{Bytes, end_of}
 use Rattle.czi_region.specs.declared.block.Piece.{Piece}
 use Rattle.czi_region.specs.Pieces.{IsPiece}
 use Rattle.czi_vault.specs.Recovered.{with_links}
-use Rattle.czi_commit.specs.Filled.{AreFree, AreNear, filled, last_end, pieces_in, with_gap}
+use Rattle.czi_commit.specs.Filled.{AreFree, filled, with_gap}
+use Rattle.czi_plan.specs.Pieces.{AreNear, last_end, bytes_in}
 use Rattle.czi_commit.proofs.Standing.{fills_then}
 use Rattle.czi_commit.proofs.Gaps.{end_small, free_gap, length-gap, mapped_has, next_of, pieces_next, with_links-gap}
 use Rattle.czi_commit.proofs.filling.fill.Goals as goal
@@ -20,7 +21,7 @@ put-requires-clause-fits g c =
     let d : ℕ × Piece = (0, record { at = 0; len = 0 }) in
     let w : Bytes = record { place = (get_or writes c.loop-i.i d).0; bytes = c.get-bytes.result.now } in
     let here = pieces_next c.args.region.now writes c.loop-i.i d c.get-bytes.result.now (omega arith) c.get-bytes.ensures in
-    end_small c.loop-i.end w (pieces_in c.args.region.now (drop (c.loop-i.i + 1) writes)) (pieces_in c.args.region.now (drop c.loop-i.i writes)) (2 ^ 62) here c.loop-i.invariant.small
+    end_small c.loop-i.end w (bytes_in c.args.region.now (drop (c.loop-i.i + 1) writes)) (bytes_in c.args.region.now (drop c.loop-i.i writes)) (2 ^ 62) here c.loop-i.invariant.small
 
 pub overflow_add-place : goal.overflow_add-place
 overflow_add-place g c =
@@ -28,7 +29,7 @@ overflow_add-place g c =
     let d : ℕ × Piece = (0, record { at = 0; len = 0 }) in
     let w : Bytes = record { place = (get_or writes c.loop-i.i d).0; bytes = c.get-bytes.result.now } in
     let here = pieces_next c.args.region.now writes c.loop-i.i d c.get-bytes.result.now (omega arith) c.get-bytes.ensures in
-    let small = end_small c.loop-i.end w (pieces_in c.args.region.now (drop (c.loop-i.i + 1) writes)) (pieces_in c.args.region.now (drop c.loop-i.i writes)) (2 ^ 62) here c.loop-i.invariant.small in
+    let small = end_small c.loop-i.end w (bytes_in c.args.region.now (drop (c.loop-i.i + 1) writes)) (bytes_in c.args.region.now (drop c.loop-i.i writes)) (2 ^ 62) here c.loop-i.invariant.small in
     omega (arith, small)
 
 pub returns-in_err-put-clause-moments : goal.returns-in_err-put-clause-moments
@@ -37,7 +38,7 @@ returns-in_err-put-clause-moments g c = λ all is view stands counts free.
     let d : ℕ × Piece = (0, record { at = 0; len = 0 }) in
     let w : Bytes = record { place = (get_or writes c.loop-i.i d).0; bytes = c.get-bytes.result.now } in
     let here = pieces_next c.args.region.now writes c.loop-i.i d c.get-bytes.result.now (omega arith) c.get-bytes.ensures in
-    let rest = pieces_in c.args.region.now (drop (c.loop-i.i + 1) writes) in
+    let rest = bytes_in c.args.region.now (drop (c.loop-i.i + 1) writes) in
     let so_far = c.loop-i.invariant.moments all is view stands counts free in
     let gap = free_gap view c.loop-i.end w rest (subst (λ (ps : List Bytes). AreFree view (filled c.loop-i.end ps)) here so_far.0) in
     fills_then g.R.Rig g.met.R.Rig.counts_now g.met.R.Rig.only_now c.args.rig.now c.loop-i.rig c.put.new.rig all view is stands counts so_far.1 c.loop-i.invariant.other c.loop-i.invariant.goes_on
@@ -54,8 +55,8 @@ loop-i-preserved g c =
     let d : ℕ × Piece = (0, record { at = 0; len = 0 }) in
     let x : ℕ × Piece = get_or writes c.loop-i.i d in
     let w : Bytes = record { place = x.0; bytes = c.get-bytes.result.now } in
-    let rest = pieces_in region (drop (c.loop-i.i + 1) writes) in
-    let here : pieces_in region (drop c.loop-i.i writes) ≡ w ∷ rest = pieces_next region writes c.loop-i.i d c.get-bytes.result.now (omega arith) c.get-bytes.ensures in
+    let rest = bytes_in region (drop (c.loop-i.i + 1) writes) in
+    let here : bytes_in region (drop c.loop-i.i writes) ≡ w ∷ rest = pieces_next region writes c.loop-i.i d c.get-bytes.result.now (omega arith) c.get-bytes.ensures in
     let next : drop c.loop-i.i writes ≡ x ∷ drop (c.loop-i.i + 1) writes = next_of writes c.loop-i.i d (omega arith) in
     let end_is : c.max-end.result ≡ max end (end_of w) = omega arith in
     let wrote : seen_of new Image ≡ option_map (with_links (with_gap end w)) (seen_of mid Image) = c.in_ok-put.ensures.written in

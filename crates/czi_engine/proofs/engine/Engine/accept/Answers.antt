@@ -1,11 +1,36 @@
-use Rattle.czi_engine.proofs.Accepting.{after_ends, after_disjoint, after_free}
+use Rattle.std.proofs.Common.{◌≡◌, ◌∙◌, map, length, ap, sym, subst, arith}
+use Rattle.std.proofs.lemmas.List.{length-map}
+use Rattle.czi_format.specs.Space.{deleted_after}
+use Rattle.czi_image.specs.Applied.{HasRoom}
+use Rattle.czi_image.specs.declared.change.Change.{Change}
+use Rattle.czi_num.specs.Span.{span_of}
+use Rattle.czi_plan.specs.Plan.{freed_of, used_of}
+use Rattle.czi_plan.proofs.Brief.{few_extents}
+use Rattle.czi_engine.proofs.Fitting.{map_rises}
 use Rattle.czi_engine.proofs.engine.Engine.accept.Goals as goal
 
-pub remove_tile-requires-clause-ends : goal.remove_tile-requires-clause-ends
-remove_tile-requires-clause-ends c = after_ends c.args.self.now c.args.i c.args.next c.requires.prepared c.requires.own_map c.requires.whole
+pub update_map-requires-clause-rise : goal.update_map-requires-clause-rise
+update_map-requires-clause-rise c = map_rises c.args.self.now.state c.requires.own_map
 
-pub remove_tile-requires-clause-disjoint : goal.remove_tile-requires-clause-disjoint
-remove_tile-requires-clause-disjoint c = after_disjoint c.args.self.now c.args.i c.args.next c.requires.prepared c.requires.own_map c.requires.whole
-
-pub remove_tile-requires-clause-free : goal.remove_tile-requires-clause-free
-remove_tile-requires-clause-free c = after_free c.args.self.now c.args.i c.args.next c.requires.prepared c.requires.own_map c.requires.whole
+pub apply-requires-clause-room : goal.apply-requires-clause-room
+apply-requires-clause-room c =
+    let x = c.args.self.now in
+    let p = x.scratch.plan in
+    let h = c.requires.memory.index in
+    let after : c.update_map.new.space.extents ≡ deleted_after (used_of p) (freed_of p) x.state.map.extents =
+    c.update_map.ensures.map.extents ∙ (λ i. deleted_after (map span_of (c.deref.ensures.value i)) (map span_of (c.deref-2.ensures.value i)) x.state.map.extents) in
+    let few = few_extents x.state.map.length (used_of p) (freed_of p) x.state.map.extents (map_rises x.state c.requires.own_map) c.requires.plan.takes in
+    subst (λ (change : Change). HasRoom change (length c.extents.result.now) x.state.index) (sym c.replace-change.ensures.value) (record {
+      tiles = h.tiles;
+      attachments = h.attachments;
+      extents = omega (
+        arith,
+        h.extents,
+        few,
+        ap length after,
+        ap length c.extents.ensures.extents,
+        length-map c.extents.result.now span_of,
+        length-map p.used.items span_of,
+        length-map p.freed.items span_of,
+      );
+    })

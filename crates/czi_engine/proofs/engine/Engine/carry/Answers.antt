@@ -1,21 +1,19 @@
-use Rattle.std.proofs.Common.{◌∙◌, sym}
-use Rattle.czi_engine.proofs.Carried.{guid_stays, header_long, image_guid, image_length, plan_long, writes_long, writes_near, writes_small}
+use Rattle.std.proofs.Common.{◌∙◌, ℕ, List, sym, subst}
+use Rattle.czi_commit.specs.Made.{Fits, step_of}
+use Rattle.czi_engine.proofs.Fitting.{fits_step, image_guid, image_length}
 use Rattle.czi_engine.proofs.engine.Engine.carry.Goals as goal
 
-pub carry_out-requires-clause-whole : goal.carry_out-requires-clause-whole
-carry_out-requires-clause-whole g c = λ seen is. let some = c.requires.stands.state seen is in image_length some.start seen some.live some.state c.args.self.now some.has
-
-pub carry_out-requires-clause-guid : goal.carry_out-requires-clause-guid
-carry_out-requires-clause-guid g c = λ seen is. let some = c.requires.stands.state seen is in image_guid some.start seen some.live some.state c.args.self.now some.has ∙ sym c.guid.ensures
-
-pub carry_out-requires-clause-near : goal.carry_out-requires-clause-near
-carry_out-requires-clause-near g c = writes_near c.args.self.now c.requires.planned.0 c.requires.stands.own_map c.requires.planned.1
-
-pub carry_out-requires-clause-small : goal.carry_out-requires-clause-small
-carry_out-requires-clause-small g c = writes_small c.args.self.now c.requires.planned.0 c.requires.stands.own_map c.requires.planned.1
-
-pub carry_out-requires-clause-long : goal.carry_out-requires-clause-long
-carry_out-requires-clause-long g c = writes_long c.args.self.now c.requires.planned.0 c.requires.stands.own_map c.requires.planned.1
-
-pub carry_out-requires-clause-guid_stays : goal.carry_out-requires-clause-guid_stays
-carry_out-requires-clause-guid_stays g c = guid_stays c.args.self.now c.requires.planned.0 c.requires.stands.own_map c.requires.planned.1
+pub carry_out-requires-clause-ready : goal.carry_out-requires-clause-ready
+carry_out-requires-clause-ready g c =
+    let x = c.args.self.now.state in
+    let on = c.requires.stands in
+    record {
+      rest = on.image;
+      whole = λ seen is. let some = on.state seen is in image_length some.start seen some.live some.state x some.has;
+      guid = λ seen is. let some = on.state seen is in image_guid some.start seen some.live some.state x some.has ∙ sym c.guid.ensures;
+      journal = on.armed;
+      idle = on.idle;
+      staged = c.requires.plan.staged;
+      fits = subst (λ (guid : List ℕ). Fits x.index.length (step_of (record { guid = guid; length = x.index.length }) c.args.self.now.scratch.region c.args.self.now.scratch.plan)) (sym c.guid.ensures)
+          (fits_step x c.args.self.now.scratch.region c.args.self.now.scratch.plan on.own_map c.requires.plan);
+    }

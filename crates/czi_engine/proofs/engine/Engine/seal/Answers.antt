@@ -1,4 +1,4 @@
-use Rattle.czi_rig.specs.declared.file.File.TheVariants.{Image, Journal}
+use Rattle.czi_rig.specs.declared.file.File.TheVariants.{Image}
 use Rattle.czi_rig.proofs.Known.{known_file}
 use Rattle.czi_engine.proofs.Fresh.{closes_for_itself}
 use Rattle.czi_engine.proofs.engine.Engine.seal.Goals as goal
