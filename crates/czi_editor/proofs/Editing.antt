@@ -1,44 +1,45 @@
 -- An edit, as a session takes it.
-use Rattle.std.proofs.Common.{◌≡◌, ◌⊎◌, ⊎_elim, ℕ, List, Option, None, Some, IfSome, Result, Ok, Err, OnOk, refl, sym, ap, ◌∙◌, subst}
-use Rattle.std.specs.Prelude.{IsFalse}
+use Rattle.std.proofs.Common.{◌≡◌, ◌⊎◌, ⊎_elim, ℕ, List, Option, None, Some, IfSome, Result, Ok, Err, OnOk, refl, sym, ap, arith, ◌∙◌, subst}
+use Rattle.std.specs.Prelude.{IsFalse, IsTrue, ◌≤◌}
 use Rattle.std.proofs.lemmas.Option.{none-some, same_Some}
 use Rattle.czi_format.specs.Entry.{Dim}
 use Rattle.czi_machine.specs.Edit.{Refusal, remove}
-use Rattle.czi_machine.specs.Machine.{after_edit}
+use Rattle.czi_machine.specs.Machine.{after_edit, one_more}
 use Rattle.czi_machine.specs.State.{State as MachineState}
 use Rattle.czi_rig.specs.declared.file.File.TheVariants.{Image, Journal}
 use Rattle.czi_rig.specs.State.{State, SameAll, SameFiles, known}
 use Rattle.czi_rig.specs.declared.rig.Rig.{Ghosts}
 use Rattle.czi_rig.specs.Passes.{GoesOn}
-use Rattle.czi_rig.specs.Moments.{Devices, devices, all_of}
+use Rattle.czi_rig.specs.Moments.{Devices, OnlyNow, devices, all_of}
+use Rattle.czi_rig.specs.Spans.{EachTwo}
+use Rattle.czi_rig.proofs.Files.{everywhere_weaker}
+use Rattle.czi_opening.proofs.Restoring.{counts_armed}
 use Rattle.czi_rig.proofs.Known.{known_file, known_said, known_seen, same_known, told_after}
 use Rattle.czi_script.specs.Script.{Remove}
 use Rattle.czi_session.specs.Course.{EitherSide, Stands}
+use Rattle.czi_session.proofs.Spoken.{resting_alike}
 use Rattle.czi_engine.specs.Devices.{edit_device}
-use Rattle.czi_engine.specs.Editing.{Accepts, DuringEdit, SameEngine, is_device, or_before, refusal_of, state_after}
+use Rattle.czi_engine.specs.Editing.{Accepts, Alike, AsBefore, DuringEdit, is_device, or_before, origin_after, refusal_of, state_after}
 use Rattle.czi_engine.specs.declared.error.EditError.{EditError}
 use Rattle.czi_engine.specs.declared.error.EditError.TheVariants.{NoKey, Full, Memory, ImageDevice, JournalDevice}
 use Rattle.czi_engine.specs.Standing.{HasState, StandsOnRig}
 use Rattle.czi_engine.specs.declared.engine.Engine.{Engine}
 use Rattle.czi_engine.proofs.Same.{same_has, same_stands}
-use Rattle.czi_editor.specs.Laws.{stays_ready_of}
+use Rattle.czi_editor.specs.Laws.{rests_now_of, stays_ready_of}
 use Rattle.czi_editor.specs.Machine.{AtState, Begun, IsReady, the_machine}
-use Rattle.czi_editor.specs.Replies.{edit_reply, no_line, ok_line}
+use Rattle.czi_editor.specs.Replies.{edit_reply}
+use Rattle.czi_report.specs.Replies.{no_line, ok_line}
 
-pub sides : (b : Begun) (dims : List Dim) (before start : List ℕ) → before ≡ start → (image journal said : List ℕ) → DuringEdit b.start b.state (remove dims) before image journal said → EitherSide the_machine b (Remove dims) start image journal said
+pub sides : (b : Begun) (dims : List Dim) (before start : List ℕ) → before ≡ start → (image journal said : List ℕ) → DuringEdit b.start b.state (λ s. after_edit s (remove dims)) before image journal said → EitherSide the_machine b (Remove dims) start image journal said
 sides b dims before start same image journal said d = (d.0, d.1 ∙ same)
 
--- the state after an edit
-pub state_is : (s t : MachineState) (dims : List Dim) → after_edit s (remove dims) ≡ Ok t → state_after s (remove dims) ≡ t
-state_is s t dims goes = ap (or_before s) goes
-
-pub state_stays : (s : MachineState) (dims : List Dim) (r : Refusal) → after_edit s (remove dims) ≡ Err r → state_after s (remove dims) ≡ s
-state_stays s dims r refused = ap (or_before s) refused
+one_or_more : (n : ℕ) → 1 ≤ one_more n
+one_or_more n = grind arith
 
 module _ (x y : Engine) (old new : State) (said : List ℕ) (b : Begun) (dims : List Dim) (h : Stands the_machine (AtState x) old said b) where
-  pub accepted_stands : (n : ℕ) → Accepts (remove dims) b.start b.state new y n → StandsOnRig new y → GoesOn old new → new.said ≡ old.said
-      → Stands the_machine (AtState y) new said (record { start = b.start; state = state_after b.state (remove dims) })
-  accepted_stands n a on goes same =
+  pub accepted_stands : (n : ℕ) → Accepts (λ s. after_edit s (remove dims)) b.start b.state new y.state n → StandsOnRig new y.state → IsTrue y.state.journal.armed → GoesOn old new → new.said ≡ old.said
+      → Stands the_machine (AtState y) new said (record { start = origin_after b.start (after_edit b.state (remove dims)); journal = b.journal; state = state_after b.state (remove dims) })
+  accepted_stands n a on armed goes same =
       let image = told_after old new Image h.now.image goes (known_file old Image h.now h.known) in
       let journal = told_after old new Journal h.now.journal goes (known_file old Journal h.now h.known) in
       let now : Devices = record { image = image.0; journal = journal.0; said = h.now.said } in
@@ -50,22 +51,25 @@ module _ (x y : Engine) (old new : State) (said : List ℕ) (b : Begun) (dims : 
         stands = record {
           rest = on.image image.0 image.1;
           itself = on.itself now is;
+          holds = everywhere_weaker journal.0 (λ j counts.
+              let some : 1 ≤ (or_before b.state (after_edit b.state (remove dims))).number = subst (λ (r : Result MachineState Refusal). 1 ≤ (or_before b.state r).number) (sym a.goes) (omega (arith, one_or_more b.state.number, a.counted, a.numbered)) in
+              record { unedited = λ none. absurd (omega (arith, none, some)); edited = λ one. counts_armed y.state.journal.armed y.state.journal.selected j armed counts }) (on.armed journal.0 journal.1);
           live = a.live;
-          has = subst (λ (s : MachineState). HasState b.start image.0.seen a.live s y) (sym (state_is b.state a.state dims a.goes)) (a.has image.0.seen (known_seen new Image now is));
+          has = subst (λ (r : Result MachineState Refusal). HasState (origin_after b.start r) image.0.seen a.live (or_before b.state r) y.state) (sym a.goes) (a.has image.0.seen (known_seen new Image now is));
         };
       }
 
   -- nothing changed
-  pub kept_stands : SameEngine x y → SameAll old new → Stands the_machine (AtState y) new said b
+  pub kept_stands : AsBefore x.state y.state → SameAll old new → Stands the_machine (AtState y) new said b
   kept_stands engine same = record {
     now = h.now;
     known = same_known old new h.now h.known same;
     said_is = h.said_is;
-    stands = record { rest = h.stands.rest; itself = h.stands.itself; live = h.stands.live; has = same_has x y engine b.start h.now.image.seen h.stands.live b.state h.stands.has };
+    stands = record { rest = h.stands.rest; itself = h.stands.itself; holds = h.stands.holds; live = h.stands.live; has = same_has x.state y.state engine b.start h.now.image.seen h.stands.live b.state h.stands.has };
   }
 
-  pub refused_stands : (r : Refusal) → after_edit b.state (remove dims) ≡ Err r → SameEngine x y → SameAll old new → Stands the_machine (AtState y) new said (record { start = b.start; state = state_after b.state (remove dims) })
-  refused_stands r refused engine same = subst (λ (s : MachineState). Stands the_machine (AtState y) new said (record { start = b.start; state = s })) (sym (state_stays b.state dims r refused)) (kept_stands engine same)
+  pub refused_stands : (r : Refusal) → after_edit b.state (remove dims) ≡ Err r → AsBefore x.state y.state → SameAll old new → Stands the_machine (AtState y) new said (record { start = origin_after b.start (after_edit b.state (remove dims)); journal = b.journal; state = state_after b.state (remove dims) })
+  refused_stands r refused engine same = subst (λ (a : Result MachineState Refusal). Stands the_machine (AtState y) new said (record { start = origin_after b.start a; journal = b.journal; state = or_before b.state a })) (sym refused) (kept_stands engine same)
 
 -- the reply to an edit
 pub ok_is : (s t : MachineState) (dims : List Dim) (n : ℕ) → after_edit s (remove dims) ≡ Ok t → n ≡ t.number → ok_line n ≡ edit_reply (after_edit s (remove dims))
@@ -104,11 +108,15 @@ same_all rig same = record {
 }
 
 -- an engine whose edit was refused may be used
-pub refused_ready : (x y : Engine) (old new : State) → IsReady x old → SameEngine x y → SameFiles old new → GoesOn old new → IsReady y new
+pub refused_ready : (x y : Engine) (old new : State) → IsReady x old → AsBefore x.state y.state → SameFiles old new → GoesOn old new → IsReady y new
 refused_ready x y old new ready same files goes =
     let on = stays_ready_of x old new ready files goes in
-    record { stands = same_stands x y same new on.stands; up = same.down ∙ on.up }
+    record { stands = same_stands x.state y.state same new on.stands; up = same.down ∙ on.up }
 
 pub both_ok : {T E : Type 0} {P Q S : Type 0} (r : Result T E) → (P → Q → S) → OnOk r P → OnOk r Q → OnOk r S
 both_ok (Ok t) f p q = f p q
 both_ok (Err e) f p q = tt
+
+-- any two pairs that a crash leaves where no call is made
+pub unasked_alike : {D : Type 0} (rig : Ghosts D) → OnlyNow rig → (x : Engine) (r : D) (said : List ℕ) (b : Begun) → Stands the_machine (AtState x) (rig.state r) said b → EachTwo rig r r Alike
+unasked_alike rig only x r said b h = resting_alike rig only the_machine (AtState x) (rests_now_of x) b said r h

@@ -7,7 +7,7 @@ use Rattle.czi_opening.specs.declared.error.OpenError.TheVariants.{ImageDevice a
 use Rattle.czi_session.specs.declared.stop.EditorStop.TheVariants.{Image, Journal, Memory}
 use Rattle.czi_session.specs.declared.stop.OpenStop.{OpenStop}
 use Rattle.czi_session.specs.declared.stop.OpenStop.TheVariants.{Refused, Stopped}
-use Rattle.czi_editor.specs.Refusals.{cause_text}
+use Rattle.czi_report.specs.Refusals.{cause_text}
 
 -- an opening's error, as a session tells it: the line of its cause, or a device that failed, or want of memory
 abbrev pub Tells : OpenError → OpenStop → Type 0

@@ -1,30 +1,52 @@
 -- The laws of an editor hold of an engine.
 use Rattle.std.specs.Prelude.{◌≡◌, ℕ, ◌<◌, List, length, Option, Some, None, is_some, option_map, refl, Result, Ok, Err}
-use Rattle.std.proofs.Common.{sym, ◌∙◌, ap}
+use Rattle.std.proofs.Common.{sym, ◌∙◌, ap, arith, subst}
 use Rattle.std.proofs.Math.Nat.{zero-lt-suc}
 use Rattle.std.proofs.lemmas.Bool.{false≢true}
 use Rattle.czi_rig.specs.declared.file.File.TheVariants.{Image, Journal}
-use Rattle.czi_rig.specs.Disk.{Disk, Left}
+use Rattle.czi_rig.specs.Disk.{Disk, IsAtRest, Left}
 use Rattle.czi_rig.specs.State.{State, SameFiles}
 use Rattle.czi_rig.specs.Passes.{GoesOn}
 use Rattle.czi_rig.specs.Moments.{Devices, devices, all_of}
+use Rattle.czi_rig.proofs.Files.{left_settled}
 use Rattle.czi_rig.proofs.Known.{known_file, known_said}
+use Rattle.czi_format.specs.Live.{Live}
+use Rattle.czi_journal.specs.Journals.{slot_of}
 use Rattle.czi_machine.specs.Edit.{Refusal, too_long, no_key, duplicate, too_many, nothing, full, remove}
 use Rattle.czi_machine.specs.Machine.{after_edit}
 use Rattle.czi_machine.specs.State.{State as MachineState}
+use Rattle.czi_report.specs.Refusals.{cause_text}
+use Rattle.czi_report.specs.Replies.{no_line, ok_line}
 use Rattle.czi_report.specs.States.{list_of, info_of}
-use Rattle.czi_report.specs.Text.{items_text, number_line}
+use Rattle.czi_report.specs.Text.{items_text, text_line}
 use Rattle.czi_script.specs.Script.{Command, Remove, Listing, Info}
 use Rattle.czi_opening.proofs.Verdict.{one_cause}
 use Rattle.czi_engine.specs.declared.engine.Engine.{Engine}
-use Rattle.czi_engine.proofs.Keeping.{has_opens}
-use Rattle.czi_editor.specs.Machine.{AtState, Begun, IsReady, IsRefused, opens_in}
-use Rattle.czi_editor.specs.Refusals.{cause_text}
-use Rattle.czi_editor.specs.Replies.{edit_reply, no_line, ok_line, reply}
+use Rattle.czi_engine.specs.Editing.{ShowsAlone}
+use Rattle.czi_engine.specs.Standing.{IsItself, KeepsItems}
+use Rattle.czi_engine.specs.Stands.{StandsOn}
+use Rattle.czi_engine.proofs.Keeping.{has_opens, one_alike, shows_alone}
+use Rattle.czi_session.specs.Course.{Rests, Unsealed}
+use Rattle.czi_editor.specs.Machine.{AtState, Begins, Begun, HoldsAt, IsReady, IsRefused, the_machine}
+use Rattle.czi_editor.specs.Replies.{edit_reply, reply}
 
--- whatever a crash leaves of the files of a state opens to it
-pub opens_whatever : (x : Engine) (image journal : Disk) (b : Begun) → AtState x image journal b → (i j : List ℕ) → Left image.durable i → Left journal.durable j → opens_in i j b
-opens_whatever x image journal b at i j li lj = has_opens b.start image.seen i j at.live b.state at.has.stands at.has.kept (at.itself i j li lj)
+-- files of a state, of which every pair that a crash leaves stands for the image, rest at it
+pub rests_at : (b : Begun) (image journal : Disk) (live : Live) → IsAtRest image → IsItself image journal → StandsOn b.start.bytes image.seen live b.state → KeepsItems b.start image.seen b.state.layout
+    → Rests the_machine image journal b
+rests_at b image journal live rest itself stands kept = record {
+  opens = λ i j li lj. has_opens b.start image.seen i j live b.state stands kept (itself i j li lj);
+  alone = λ i li. subst (λ (z : List ℕ). ShowsAlone z b.state.document) (sym (left_settled image.seen i (subst (λ (d : Disk). Left d.durable i) rest li))) (shows_alone b.start.bytes image.seen live b.state stands);
+  itself = itself;
+  alike = λ i j i' j' li lj li' lj'. one_alike image.seen i j i' j' (itself i j li lj) (itself i' j' li' lj');
+}
+
+-- an engine's do, and their journal isn't sealed
+pub rests_now_of : (x : Engine) (image journal : Disk) (b : Begun) → AtState x image journal b → Unsealed the_machine image journal b
+rests_now_of x image journal b at = record { rests = rests_at b image journal at.live at.rest at.itself at.has.stands at.has.kept; holds = at.holds }
+
+-- nor is the journal of files at which a run begins
+pub begins_unsealed_of : (image journal : List ℕ) (b : Begun) → Begins image journal b → HoldsAt b journal
+begins_unsealed_of image journal b is = record { unedited = λ none. ap slot_of is.own; edited = λ some. absurd (omega (arith, some, is.fresh.number)) }
 
 said_before : (old new : Option (List ℕ)) (b : List ℕ) → is_some new ≡ is_some old → new ≡ Some b → (a : List ℕ) × (old ≡ Some a)
 said_before None new b same is = absurd (false≢true (sym same ∙ ap is_some is))
@@ -53,7 +75,7 @@ stays_ready_of x old new ready files goes =
     }
 
 no_some : (r : Refusal) → 0 < length (no_line r)
-unfolding no_line number_line
+unfolding no_line text_line
 no_some (too_long n limit) = zero-lt-suc _
 no_some no_key = zero-lt-suc _
 no_some (duplicate place) = zero-lt-suc _
@@ -62,13 +84,13 @@ no_some nothing = zero-lt-suc _
 no_some (full need n) = zero-lt-suc _
 
 edit_some : (r : Result MachineState Refusal) → 0 < length (edit_reply r)
-unfolding ok_line number_line
+unfolding ok_line text_line
 edit_some (Ok s) = zero-lt-suc _
 edit_some (Err refusal) = no_some refusal
 
 -- no reply is empty
 pub each_says : (s : MachineState) (c : Command) → 0 < length (reply s c)
-unfolding list_of info_of items_text number_line
+unfolding list_of info_of items_text text_line
 each_says s (Remove dims) = edit_some (after_edit s (remove dims))
 each_says s Listing = zero-lt-suc _
 each_says s Info = zero-lt-suc _

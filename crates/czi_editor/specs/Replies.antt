@@ -1,26 +1,13 @@
 -- What a command makes of the machine's state, and its reply.
-use Rattle.std.specs.Prelude.{◌≡◌, ℕ, List, ◌++◌, codes, Result, Ok, Err}
-use Rattle.std.specs.Fmt.{decimal}
-use Rattle.czi_engine.specs.Editing.{state_after}
-use Rattle.czi_machine.specs.Edit.{Refusal, too_long, no_key, duplicate, too_many, nothing, full, remove}
+use Rattle.std.specs.Prelude.{◌≡◌, ℕ, List, Result, Ok, Err}
+use Rattle.czi_engine.specs.Editing.{origin_after, state_after}
+use Rattle.czi_engine.specs.Standing.{Origin}
+use Rattle.czi_machine.specs.Edit.{Refusal, remove}
 use Rattle.czi_machine.specs.Machine.{after_edit}
 use Rattle.czi_machine.specs.State.{State}
+use Rattle.czi_report.specs.Replies.{no_line, ok_line}
 use Rattle.czi_report.specs.States.{list_of, info_of}
-use Rattle.czi_report.specs.Text.{line_feed, number_line}
 use Rattle.czi_script.specs.Script.{Command, Remove, Listing, Info}
-
--- an edit was accepted, as the one with this number
-unfoldable pub ok_line : ℕ → List ℕ
-ok_line number = number_line (codes "ok ") number
-
--- it was refused
-unfoldable pub no_line : Refusal → List ℕ
-no_line (too_long length limit) = codes "no long " ++ (decimal length ++ (codes " " ++ (decimal limit ++ line_feed)))
-no_line no_key = codes "no key" ++ line_feed
-no_line (duplicate place) = number_line (codes "no duplicate ") place
-no_line (too_many count) = number_line (codes "no many ") count
-no_line nothing = codes "no nothing" ++ line_feed
-no_line (full need length) = codes "no full " ++ (decimal need ++ (codes " " ++ (decimal length ++ line_feed)))
 
 -- the reply to an edit
 abbrev pub edit_reply : Result State Refusal → List ℕ
@@ -32,6 +19,12 @@ abbrev pub after : State → Command → State
 after s (Remove dims) = state_after s (remove dims)
 after s Listing = s
 after s Info = s
+
+-- and the items that have been there since the start
+abbrev pub origin_then : Origin → State → Command → Origin
+origin_then o s (Remove dims) = origin_after o (after_edit s (remove dims))
+origin_then o s Listing = o
+origin_then o s Info = o
 
 abbrev pub reply : State → Command → List ℕ
 reply s (Remove dims) = edit_reply (after_edit s (remove dims))

@@ -10,18 +10,19 @@ ghost use Rattle.czi_report.specs.Text.{info_text, list_text};
 ghost use Rattle.czi_rig.specs.Faults.{Faults, fault_at};
 ghost use Rattle.czi_rig.specs.Passes.{GoesOn};
 ghost use Rattle.czi_rig.specs.Moments.{Throughout};
+ghost use Rattle.czi_rig.specs.Spans.{EachTwo};
 ghost use Rattle.czi_script.specs.Script.{Remove};
 ghost use Rattle.czi_session.specs.Stops.{editor_device};
 ghost use Rattle.czi_session.specs.Course.{EitherSide, Stands};
-ghost use Rattle.czi_editor.specs.Laws.{each_says, opens_whatever, refused_once_of, stays_ready_of};
+ghost use Rattle.czi_editor.specs.Laws.{begins_unsealed_of, each_says, refused_once_of, rests_now_of, stays_ready_of};
 ghost use Rattle.czi_editor.specs.Machine.{AtState, Begun, IsReady, the_machine};
 ghost use Rattle.czi_editor.specs.Replies.{edit_reply, still};
 
 use crate::refusal::stop_of;
-use crate::reply::{push_no, push_ok};
+use crate::reply::push_no;
 use czi_doc::Dims;
 use czi_engine::Engine;
-use czi_report::{info, list};
+use czi_report::{info, list, push_ok};
 use czi_rig::{Failed, Rig};
 use czi_script::Command;
 use czi_session::{Editor, EditorStop, OpenStop};
@@ -39,7 +40,6 @@ pub struct ImageEditor {
 /// Removes a subblock, and appends the reply. Memory for the reply is taken first, so that an edit that was done is told.
 fn remove<R: Rig>(
     engine: &mut Engine,
-    alloc: Global,
     rig: &mut R,
     dims: &Dims,
     reply: &mut Vec<u8>,
@@ -48,6 +48,7 @@ fn remove<R: Rig>(
 
     ensures moments { (said : List ℕ) (b : Begun) → Stands the_machine (AtState engine.old) (R.state rig.old) said b →
         Throughout R.Rig rig.old rig.new (EitherSide the_machine b (Remove (dims_of dims.now)) said) }
+    ensures alike { (said : List ℕ) (b : Begun) → Stands the_machine (AtState engine.old) (R.state rig.old) said b → EachTwo R.Rig rig.old rig.new the_machine.alike }
     ensures replied { OnOk result ((said : List ℕ) (b : Begun) → Stands the_machine (AtState engine.old) (R.state rig.old) said b →
         reply.new.items ≡ reply.old.items ++ edit_reply (after_edit b.state (remove (dims_of dims.now)))) }
     ensures stands { OnOk result ((said : List ℕ) (b : Begun) → Stands the_machine (AtState engine.old) (R.state rig.old) said b →
@@ -64,18 +65,18 @@ fn remove<R: Rig>(
     let Ok(()) = reply.reserve(LONGEST_REPLY) else {
         return Err(EditorStop::Memory);
     };
-    match engine.remove(alloc, rig, dims) {
-        Ok(number) => match push_ok(reply, number) {
+    match engine.remove(rig, dims) {
+        Ok(number) => match push_ok(number, reply) {
             Ok(()) => Ok(()),
             Err(AllocError) => unreachable!(),
         },
-        Err(error) => push_no(reply, &error),
+        Err(error) => push_no(&error, reply),
     }
 }
 
 /// Appends the list of the subblocks.
 fn push_list(engine: &Engine, reply: &mut Vec<u8>) -> Result<(), EditorStop>
-    ensures said { OnOk result ((live : Live) → Holds live engine.now.index → reply.new.items ≡ reply.old.items ++ list_text live) }
+    ensures said { OnOk result ((live : Live) → Holds live engine.now.state.index → reply.new.items ≡ reply.old.items ++ list_text live) }
     ensures stopped { IfErr result (λ stop. stop ≡ EditorStop.Memory) }
 {
     match list(engine.index(), reply) {
@@ -86,7 +87,7 @@ fn push_list(engine: &Engine, reply: &mut Vec<u8>) -> Result<(), EditorStop>
 
 /// Appends what the image holds, and where it lies.
 fn push_info(engine: &Engine, reply: &mut Vec<u8>) -> Result<(), EditorStop>
-    ensures said { OnOk result ((live : Live) → Holds live engine.now.index → reply.new.items ≡ reply.old.items ++ info_text engine.now.index.length live) }
+    ensures said { OnOk result ((live : Live) → Holds live engine.now.state.index → reply.new.items ≡ reply.old.items ++ info_text engine.now.state.index.length live) }
     ensures stopped { IfErr result (λ stop. stop ≡ EditorStop.Memory) }
 {
     match info(engine.index(), reply) {
@@ -104,7 +105,9 @@ impl Editor for ImageEditor {
 
     ghost stays_ready = { λ editor old new ready files goes. stays_ready_of editor.engine old new ready files goes };
 
-    ghost opens_now = { λ editor image journal b. opens_whatever editor.engine image journal b };
+    ghost rests_now = { λ editor image journal b at. rests_now_of editor.engine image journal b at };
+
+    ghost begins_unsealed = { λ image journal b begins. begins_unsealed_of image journal b begins };
 
     ghost refused_once = { λ image journal text other refused again. refused_once_of image journal text other refused again };
 
@@ -119,13 +122,12 @@ impl Editor for ImageEditor {
 
     fn perform<R: Rig>(
         &mut self,
-        alloc: Global,
         rig: &mut R,
         command: &Command,
         reply: &mut Vec<u8>,
     ) -> Result<(), EditorStop> {
         match command {
-            Command::Remove { dims } => remove(&mut self.engine, alloc, rig, dims, reply),
+            Command::Remove { dims } => remove(&mut self.engine, rig, dims, reply),
             Command::List => push_list(&self.engine, reply),
             Command::Info => push_info(&self.engine, reply),
         }

@@ -7,7 +7,6 @@ mod refusal;
 mod reply;
 #[cfg(test)]
 mod tests;
-mod text;
 
 pub use editor::ImageEditor;
 pub use laws::each_pair_begins_or_is_refused;

@@ -1,8 +1,9 @@
 use crate::ImageEditor;
 use crate::refusal::stop_of;
-use crate::reply::{push_no, push_ok};
+use crate::reply::push_no;
 use czi_engine::{EditError, ImageRefusal, OpenError};
 use czi_num::Span;
+use czi_report::push_ok;
 use czi_rig::{File, MemRig};
 use czi_script::Command;
 use czi_session::{Editor, EditorStop, OpenStop};
@@ -98,9 +99,9 @@ static ANSWERS: [(EditError, Result<(), EditorStop>); 5] = [
 #[test]
 fn each_reply_is_a_line(rt: HostRuntime) -> Result<(), Fail> {
     let mut reply = Vec::new(rt.alloc());
-    push_ok(&mut reply, u64::MAX)?;
+    push_ok(u64::MAX, &mut reply)?;
     for (error, answer) in ANSWERS.iter() {
-        assert!(rt; push_no(&mut reply, error) == *answer);
+        assert!(rt; push_no(error, &mut reply) == *answer);
     }
     let lines = b"ok 18446744073709551615\nno key\nno full 160 1099511627700\n".as_slice();
     assert!(rt; reply.as_slice() == lines);
@@ -119,7 +120,7 @@ fn an_editor_is_opened_and_closed(rt: HostRuntime) -> Result<(), Fail> {
         return Err(Fail::new("not opened"));
     };
     let mut reply = Vec::new(alloc);
-    let Ok(()) = editor.perform(alloc, &mut rig, &Command::List, &mut reply) else {
+    let Ok(()) = editor.perform(&mut rig, &Command::List, &mut reply) else {
         return Err(Fail::new("not listed"));
     };
     assert!(rt; reply.as_slice() == b"tiles 0\n".as_slice());

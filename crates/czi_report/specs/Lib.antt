@@ -1,2 +1,4 @@
 pub mod States
 pub mod Text
+pub mod Refusals
+pub mod Replies

@@ -1,5 +1,5 @@
--- The texts of `list` and `info`: each line ends with a line feed.
-use Rattle.std.specs.Prelude.{ℕ, ◌+◌, List, [], ◌∷◌, ◌++◌, length, codes, Option, Some, None}
+-- The pieces of lines, and the texts of `list` and `info`: each line ends with a line feed.
+use Rattle.std.specs.Prelude.{ℕ, ℤ, ◌+◌, List, [], ◌∷◌, ◌++◌, length, codes, Option, Some, None}
 use Rattle.std.specs.Fmt.{decimal, signed_decimal}
 use Rattle.uuid.specs.Text.{hyphenated_text, lower}
 use Rattle.czi_format.specs.Bytes.{bytes_at, stored_order}
@@ -17,9 +17,25 @@ line_feed = 10 ∷ []
 unfoldable pub span_text : Span → List ℕ
 span_text s = decimal s.at ++ (codes " " ++ decimal s.len)
 
--- a line of a word and a number
-unfoldable pub number_line : List ℕ → ℕ → List ℕ
-number_line word n = word ++ (decimal n ++ line_feed)
+-- a line of a word and a text
+unfoldable pub text_line : List ℕ → List ℕ → List ℕ
+text_line word text = word ++ (text ++ line_feed)
+
+-- of a word and a number
+abbrev pub number_line : List ℕ → ℕ → List ℕ
+number_line word n = text_line word (decimal n)
+
+-- of a word and two numbers
+abbrev pub numbers_line : List ℕ → ℕ → ℕ → List ℕ
+numbers_line word first second = word ++ (decimal first ++ (codes " " ++ (decimal second ++ line_feed)))
+
+-- and of a word and a place of the image
+abbrev pub place_line : List ℕ → ℤ → List ℕ
+place_line word place = text_line word (signed_decimal place)
+
+-- a GUID in the stored order of its bytes, as text
+abbrev pub guid_text : List ℕ → List ℕ
+guid_text guid = hyphenated_text lower (stored_order guid)
 
 -- one subblock in `list`: its number, its place and its info
 unfoldable pub tile_line_of : ℕ → ℕ → EntryInfo → List ℕ
@@ -44,7 +60,7 @@ list_text live = items_text (codes "tiles ") tile_line live.tiles
 
 -- the FileGuid: it stands at 32 of the identity
 unfoldable pub guid_line : List ℕ → List ℕ
-guid_line identity = codes "guid " ++ (hyphenated_text lower (stored_order (bytes_at identity 32 16)) ++ line_feed)
+guid_line identity = codes "guid " ++ (guid_text (bytes_at identity 32 16) ++ line_feed)
 
 -- where a directory lies, or none
 unfoldable pub directory_line : List ℕ → Option Span → List ℕ
@@ -62,7 +78,7 @@ tile_info_line i t = tile_info_line_of i (extent t.segment) t.head.meta t.head.p
 -- one attachment: its number, its extent, its info and its length
 unfoldable pub attachment_line_of : ℕ → Span → AttInfo → ℕ → List ℕ
 attachment_line_of i s info size = codes "attachment " ++ (decimal i ++ (codes " " ++ (span_text s
-    ++ (codes " guid=" ++ (hyphenated_text lower (stored_order info.guid)
+    ++ (codes " guid=" ++ (guid_text info.guid
     ++ (codes " type=" ++ (bytes_text (up_to_zero info.kind)
     ++ (codes " name=" ++ (bytes_text (up_to_zero info.name)
     ++ (codes " data=" ++ (decimal size ++ line_feed)))))))))))

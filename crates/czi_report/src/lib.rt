@@ -1,13 +1,19 @@
-//! The texts of `list` and `info`: what an index has, a line each.
+//! The texts of a run: `list` and `info` (what an index has, a line each), the replies to edits, and why an image isn't
+//! opened. Their pieces are in `text`.
 //!
-//! Each call appends its text to a buffer, or leaves the buffer as it was.
+//! Each call appends its text to a buffer. Where memory runs out `list` and `info` leave the buffer as it was, and the others
+//! may have appended a front of their line.
 #![tactic(auto)]
 
 mod details;
 mod laws;
 mod listing;
-mod text;
+mod refusal;
+mod reply;
+pub mod text;
 
 pub use details::info;
 pub use laws::texts_of_a_state;
 pub use listing::list;
+pub use refusal::push_cause;
+pub use reply::{push_no_full, push_no_key, push_ok};

@@ -7,7 +7,7 @@ ghost use Rattle.czi_image.specs.Holds.{Holds};
 ghost use Rattle.czi_image.specs.View.{tile_of};
 ghost use Rattle.czi_report.specs.Text.{items_text, list_text, tile_line};
 
-use crate::text::{end_with_dims, end_with_number, push_number, push_signed};
+use crate::text::{end_with_dims, end_with_number, push_number};
 use czi_image::{Index, Tile};
 use std::alloc::AllocError;
 
@@ -45,8 +45,8 @@ fn push_tile(number: u64, tile: &Tile, out: &mut Vec<u8>) -> Result<(), AllocErr
 {
     push_number(b"tile ", number, out)?;
     push_number(b" ", tile.span.at, out)?;
-    push_signed(b" pixel=", tile.info.pixel, out)?;
-    push_signed(b" comp=", tile.info.compression, out)?;
+    push_number(b" pixel=", tile.info.pixel, out)?;
+    push_number(b" comp=", tile.info.compression, out)?;
     end_with_dims(b" dims=", &tile.info.dims, out)?;
     Ok(())
 }

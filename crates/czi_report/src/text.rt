@@ -1,34 +1,25 @@
-//! Pieces of lines.
+//! Pieces of lines. Where memory runs out, `out` may have a front of the piece more.
 
-ghost use Rattle.std.specs.Prelude.{◌≡◌, ◌++◌, OnOk, OnErr};
-ghost use Rattle.std.specs.Fmt.{decimal, signed_decimal};
-ghost use Rattle.uuid.specs.Text.{hyphenated_text, lower};
-ghost use Rattle.czi_format.specs.Bytes.{stored_order};
+ghost use Rattle.std.specs.Prelude.{◌≡◌, ◌≤◌, ◌+◌, ◌++◌, IsOk, OnOk, OnErr, length, vec_len, vec_capacity};
 ghost use Rattle.czi_format.specs.Text.{bytes_text, dims_text, up_to_zero};
 ghost use Rattle.czi_doc.specs.Grows.{Grows};
 ghost use Rattle.czi_doc.specs.View.{dims_of};
 ghost use Rattle.czi_num.specs.Span.{span_of};
-ghost use Rattle.czi_report.specs.Text.{line_feed, number_line, span_text};
+ghost use Rattle.czi_report.specs.Text.{guid_text, line_feed, numbers_line, span_text, text_line};
 
 use czi_att::write_guid;
 use czi_doc::{Dims, write_dims, write_name};
 use czi_num::Span;
-use itoa::Buffer;
+use itoa::{Buffer, Integer};
 use std::alloc::AllocError;
 
-/// Appends a label and a number.
-pub(crate) fn push_number(label: &[u8], number: u64, out: &mut Vec<u8>) -> Result<(), AllocError>
-    ensures ok { OnOk result (out.new.items ≡ out.old.items ++ (label.now ++ decimal number)) }
+/// Appends a label and a number. Where `out` has room for the label and the longest number of the type, that takes no memory.
+pub fn push_number<I: Integer>(label: &[u8], number: I, out: &mut Vec<u8>) -> Result<(), AllocError>
+    ensures ok { OnOk result (out.new.items ≡ out.old.items ++ (label.now ++ I.text number)) }
     ensures err { OnErr result (Grows out.old.items out.new.items) }
-{
-    out.extend_from_slice(label)?;
-    out.extend_from_slice(Buffer::new().format(number).as_bytes())
-}
-
-/// Appends a label and a number that may be negative.
-pub(crate) fn push_signed(label: &[u8], number: i32, out: &mut Vec<u8>) -> Result<(), AllocError>
-    ensures ok { OnOk result (out.new.items ≡ out.old.items ++ (label.now ++ signed_decimal number)) }
-    ensures err { OnErr result (Grows out.old.items out.new.items) }
+    ensures len { OnOk result (vec_len out.new ≤ vec_len out.old + length label.now + I.MAX_STR_LEN) }
+    ensures room { vec_len out.old + length label.now + I.MAX_STR_LEN ≤ vec_capacity out.old → IsOk result }
+    ensures capacity { vec_capacity out.old ≤ vec_capacity out.new }
 {
     out.extend_from_slice(label)?;
     out.extend_from_slice(Buffer::new().format(number).as_bytes())
@@ -36,7 +27,7 @@ pub(crate) fn push_signed(label: &[u8], number: i32, out: &mut Vec<u8>) -> Resul
 
 /// Appends a label, the place of a span, and how many bytes lie there.
 #[tactic(auto, unfolding(crate::specs::Text::span_text))]
-pub(crate) fn push_span(label: &[u8], span: &Span, out: &mut Vec<u8>) -> Result<(), AllocError>
+pub fn push_span(label: &[u8], span: &Span, out: &mut Vec<u8>) -> Result<(), AllocError>
     ensures ok { OnOk result (out.new.items ≡ out.old.items ++ (label.now ++ span_text (span_of span.now))) }
     ensures err { OnErr result (Grows out.old.items out.new.items) }
 {
@@ -45,8 +36,8 @@ pub(crate) fn push_span(label: &[u8], span: &Span, out: &mut Vec<u8>) -> Result<
 }
 
 /// Appends a label and the text of a GUID in the stored order of its bytes.
-pub(crate) fn push_guid(label: &[u8], guid: &[u8; 16], out: &mut Vec<u8>) -> Result<(), AllocError>
-    ensures ok { OnOk result (out.new.items ≡ out.old.items ++ (label.now ++ hyphenated_text lower (stored_order guid.now))) }
+pub fn push_guid(label: &[u8], guid: &[u8; 16], out: &mut Vec<u8>) -> Result<(), AllocError>
+    ensures ok { OnOk result (out.new.items ≡ out.old.items ++ (label.now ++ guid_text guid.now)) }
     ensures err { OnErr result (Grows out.old.items out.new.items) }
 {
     out.extend_from_slice(label)?;
@@ -55,7 +46,7 @@ pub(crate) fn push_guid(label: &[u8], guid: &[u8; 16], out: &mut Vec<u8>) -> Res
 }
 
 /// Appends a label and the text of a name, which is padded with zero bytes.
-pub(crate) fn push_name(label: &[u8], name: &[u8], out: &mut Vec<u8>) -> Result<(), AllocError>
+pub fn push_name(label: &[u8], name: &[u8], out: &mut Vec<u8>) -> Result<(), AllocError>
     ensures ok { OnOk result (out.new.items ≡ out.old.items ++ (label.now ++ bytes_text (up_to_zero name.now))) }
     ensures err { OnErr result (Grows out.old.items out.new.items) }
 {
@@ -63,22 +54,38 @@ pub(crate) fn push_name(label: &[u8], name: &[u8], out: &mut Vec<u8>) -> Result<
     write_name(name, out)
 }
 
-/// Appends a label and a number, and ends the line.
-#[tactic(auto, unfolding(crate::specs::Text::number_line))]
-pub(crate) fn end_with_number(
+/// Appends a label and a number, and ends the line. Where `out` has room for them and the line feed, that takes no memory.
+#[tactic(auto, unfolding(crate::specs::Text::text_line))]
+pub fn end_with_number<I: Integer>(
     label: &[u8],
-    number: u64,
+    number: I,
     out: &mut Vec<u8>,
 ) -> Result<(), AllocError>
-    ensures ok { OnOk result (out.new.items ≡ out.old.items ++ number_line label.now number) }
+    ensures ok { OnOk result (out.new.items ≡ out.old.items ++ text_line label.now (I.text number)) }
     ensures err { OnErr result (Grows out.old.items out.new.items) }
+    ensures room { vec_len out.old + length label.now + I.MAX_STR_LEN + 1 ≤ vec_capacity out.old → IsOk result }
 {
     push_number(label, number, out)?;
     out.extend_from_slice(b"\n")
 }
 
+/// Appends a label and two numbers, and ends the line.
+#[tactic(auto, unfolding(crate::specs::Text::text_line))]
+pub fn end_with_numbers(
+    label: &[u8],
+    first: u64,
+    second: u64,
+    out: &mut Vec<u8>,
+) -> Result<(), AllocError>
+    ensures ok { OnOk result (out.new.items ≡ out.old.items ++ numbers_line label.now first second) }
+    ensures err { OnErr result (Grows out.old.items out.new.items) }
+{
+    push_number(label, first, out)?;
+    end_with_number(b" ", second, out)
+}
+
 /// Appends a label and dimension text, and ends the line.
-pub(crate) fn end_with_dims(label: &[u8], dims: &Dims, out: &mut Vec<u8>) -> Result<(), AllocError>
+pub fn end_with_dims(label: &[u8], dims: &Dims, out: &mut Vec<u8>) -> Result<(), AllocError>
     ensures ok { OnOk result (out.new.items ≡ out.old.items ++ (label.now ++ (dims_text (dims_of dims.now) ++ line_feed))) }
     ensures err { OnErr result (Grows out.old.items out.new.items) }
 {

@@ -2,31 +2,13 @@
 use Rattle.std.proofs.Common.{◌≡◌, ℕ, List, ◌++◌, take, Option, None, Some, inl, inr, ⊎_elim, refl, sym, ap, ◌∙◌, zero-le}
 use Rattle.std.proofs.lemmas.List.{append-nil}
 use Rattle.czi_rig.specs.declared.rig.Rig.{Ghosts}
-use Rattle.czi_rig.specs.declared.file.File.TheVariants.{Image, Journal}
-use Rattle.czi_rig.specs.State.{State, Instant}
+use Rattle.czi_rig.specs.State.{Instant}
 use Rattle.czi_rig.specs.Faults.{Device}
-use Rattle.czi_rig.specs.Passes.{GoesOn}
-use Rattle.czi_rig.specs.Moments.{CountsNow, Devices, LeavesSaying, Throughout, all_of, devices}
-use Rattle.czi_rig.proofs.Known.{known_file, known_said, leaves_now, told_after}
+use Rattle.czi_rig.specs.Moments.{CountsNow, Devices, LeavesSaying, Throughout, devices}
+use Rattle.czi_rig.proofs.Known.{leaves_now}
 use Rattle.czi_rig.proofs.Runs.{weaker}
 use Rattle.czi_session.specs.Course.{From, KeepsFiles, KeepsSaying, Model, OnceDurable}
 use Rattle.czi_session.proofs.Ending.{from_more, from_weaker}
-
--- what is told stays told where nothing is said
-pub record Told (old new : State) (all : Devices) : Type 0 where
-  pub now : Devices
-  pub known : devices new ≡ Some now
-  pub said : now.said ≡ all.said
-
-pub still_told : (old new : State) (all : Devices) → devices old ≡ Some all → GoesOn old new → new.said ≡ old.said → Told old new all
-still_told old new all is goes same =
-    let image = told_after old new Image all.image goes (known_file old Image all is) in
-    let journal = told_after old new Journal all.journal goes (known_file old Journal all is) in
-    record {
-      now = record { image = image.0; journal = journal.0; said = all.said };
-      known = λ k. all_of (image.1 k) (journal.1 k) ((same ∙ known_said old all is) k);
-      said = refl;
-    }
 
 -- none of the text was said
 keeps_saying : (m : Model) (all : Devices) (text image journal said : List ℕ) → KeepsFiles m all image journal said → KeepsSaying m all text image journal said

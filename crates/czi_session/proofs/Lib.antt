@@ -6,3 +6,4 @@ pub mod Spoken
 pub mod Refusing
 pub mod Stops
 pub mod Kept
+pub mod Told

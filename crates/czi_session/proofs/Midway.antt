@@ -10,7 +10,9 @@ use Rattle.czi_rig.specs.declared.rig.Rig.{Ghosts}
 use Rattle.czi_rig.specs.Disk.{Disk}
 use Rattle.czi_rig.specs.State.{State}
 use Rattle.czi_rig.specs.Moments.{Throughout}
+use Rattle.czi_rig.specs.Spans.{InSpans}
 use Rattle.czi_rig.proofs.Runs.{joined, weaker}
+use Rattle.czi_rig.proofs.Spans.{spans_then}
 use Rattle.czi_script.specs.declared.command.Command.{Command as CodeCommand}
 use Rattle.czi_script.specs.declared.kind.Kind.{Kind}
 use Rattle.czi_script.specs.declared.error.ScriptError.{ScriptError}
@@ -25,10 +27,10 @@ use Rattle.czi_script.proofs.Reading.{After, reads_next, reads_empty, reads_faul
 use Rattle.czi_session.specs.declared.stop.Stop.{Stop}
 use Rattle.czi_session.specs.declared.stop.Stop.TheVariants.{Script, Image, Journal, Output, Input, Memory, TooLong}
 use Rattle.czi_session.specs.Stops.{stop_by}
-use Rattle.czi_session.specs.Course.{Model, Stands, Starts, OpensToPrefix, OpensWhatever, OpensNow, WithinStep, state_after, replies}
+use Rattle.czi_session.specs.Course.{Model, Stands, Starts, ReadsToPrefix, RestsNow, Unsealed, WithinStep, state_after, replies}
 use Rattle.czi_session.specs.Ends.{AllDone, Between, EachTaken, Failing, Beyond, Inside, Whole, StepStops, StopsAt, Takes, most_by, most_taken}
-use Rattle.czi_session.proofs.Course.{state_more, spoken_more, prefix_step}
-use Rattle.czi_session.proofs.Spoken.{stands_open}
+use Rattle.czi_session.proofs.Course.{state_more, spoken_more, reads_step}
+use Rattle.czi_session.proofs.Spoken.{stands_rest}
 
 -- A run has come so far: it has read these commands, and something stands on both files at the state after them, with
 -- their replies said.
@@ -106,14 +108,17 @@ module _ (m : Model) (on : Disk → Disk → m.Document → Type 0) (reader : Re
               (stood (before ++ concat (replies m start done)) (state_after m start done) mid.stands);
         }
 
-    pub moments_next : (something : (s : m.Document) (d : Command) → 0 < length (m.reply s d)) {D : Type 0} (rig : Ghosts D) (first old new : D) (last : List ℕ) → Throughout rig first old (OpensToPrefix m start cs last before)
-        → ((said : List ℕ) (s : m.Document) → Stands m on state said s → Throughout rig old new (WithinStep m s (command_of c) said)) → Throughout rig first new (OpensToPrefix m start cs last before)
+    pub moments_next : (something : (s : m.Document) (d : Command) → 0 < length (m.reply s d)) {D : Type 0} (rig : Ghosts D) (first old new : D) (last : List ℕ) → Throughout rig first old (ReadsToPrefix m start cs last before)
+        → ((said : List ℕ) (s : m.Document) → Stands m on state said s → Throughout rig old new (WithinStep m s (command_of c) said)) → Throughout rig first new (ReadsToPrefix m start cs last before)
     moments_next something rig first old new last so_far step = joined rig so_far (weaker rig
-        (λ i j o w. subst (λ ds. OpensToPrefix m start ds last before i j o) (sym next_whole) (prefix_step m something start last before mid.script.done (command_of c) after.rest i j o w))
+        (λ i j o w. subst (λ ds. ReadsToPrefix m start ds last before i j o) (sym next_whole) (reads_step m something start last before mid.script.done (command_of c) after.rest i j o w))
         (step (before ++ concat (replies m start mid.script.done)) (state_after m start mid.script.done) mid.stands))
 
+    pub alike_next : {D : Type 0} (rig : Ghosts D) (first old new : D) → InSpans rig first old m.alike → ((said : List ℕ) (s : m.Document) → Stands m on state said s → InSpans rig old new m.alike) → InSpans rig first new m.alike
+    alike_next rig first old new so_far step = spans_then rig m.alike first old new so_far (step (before ++ concat (replies m start mid.script.done)) (state_after m start mid.script.done) mid.stands)
+
     -- the command stopped
-    inside : (now_state : State) (stop : Stop) → ((said : List ℕ) (s : m.Document) → Stands m on state said s → StepStops m (OpensWhatever m) now_state s (command_of c) said stop) → Inside m (OpensWhatever m) now_state start cs before stop
+    inside : (now_state : State) (stop : Stop) → ((said : List ℕ) (s : m.Document) → Stands m on state said s → StepStops m (Unsealed m) now_state s (command_of c) said stop) → Inside m (Unsealed m) now_state start cs before stop
     inside now_state stop stops = record {
       done = mid.script.done;
       command = command_of c;
@@ -122,8 +127,8 @@ module _ (m : Model) (on : Disk → Disk → m.Document → Type 0) (reader : Re
       stops = stops (before ++ concat (replies m start mid.script.done)) (state_after m start mid.script.done) mid.stands;
     }
 
-    pub step_stops : (now_state : State) (last_left : Option (List ℕ)) (stop : Stop) → ((said : List ℕ) (s : m.Document) → Stands m on state said s → StepStops m (OpensWhatever m) now_state s (command_of c) said stop)
-        → StopsAt m (OpensWhatever m) now_state last_left start cs end before all stop
+    pub step_stops : (now_state : State) (last_left : Option (List ℕ)) (stop : Stop) → ((said : List ℕ) (s : m.Document) → Stands m on state said s → StepStops m (Unsealed m) now_state s (command_of c) said stop)
+        → StopsAt m (Unsealed m) now_state last_left start cs end before all stop
     step_stops now_state last_left Image stops = inside now_state Image stops
     step_stops now_state last_left Journal stops = inside now_state Journal stops
     step_stops now_state last_left Output stops = inside now_state Output stops
@@ -151,8 +156,8 @@ module _ (m : Model) (on : Disk → Disk → m.Document → Type 0) (reader : Re
         stands = all_done nothing.0;
       }
 
-  module _ (opens : OpensNow m on) (sound : IsReader reader) (now : Reader) (now_left : Option (List ℕ)) (same : now.commands ≡ reader.commands) where
-    each_taken : (held more : List ℕ) → mid.script.input ≡ held ++ more → length held < 4096 → HasNo 10 held → EachTaken m (OpensWhatever m) state start cs before all more
+  module _ (rests : RestsNow m on) (sound : IsReader reader) (now : Reader) (now_left : Option (List ℕ)) (same : now.commands ≡ reader.commands) where
+    each_taken : (held more : List ℕ) → mid.script.input ≡ held ++ more → length held < 4096 → HasNo 10 held → EachTaken m (Unsealed m) state start cs before all more
     each_taken held more is short free = record {
       done = mid.script.done;
       rest = mid.script.rest;
@@ -163,17 +168,17 @@ module _ (m : Model) (on : Disk → Disk → m.Document → Type 0) (reader : Re
       taken = mid.script.taken ∙ ap (λ (x : List ℕ). mid.script.front ++ x) is;
       short = short;
       free = free;
-      stands = stands_open m on opens state _ _ mid.stands;
+      stands = stands_rest m on rests state _ _ mid.stands;
     }
 
     -- the input failed
-    failing : ((bytes : List ℕ) → ahead reader left ≡ Some bytes → ahead now now_left ≡ Some bytes) → CountsError now InputError → Failing m (OpensWhatever m) state now_left start cs before all
+    failing : ((bytes : List ℕ) → ahead reader left ≡ Some bytes → ahead now now_left ≡ Some bytes) → CountsError now InputError → Failing m (Unsealed m) state now_left start cs before all
     failing leaves holds =
         let a : IsAhead now.held mid.script.input now_left = is_ahead now.held mid.script.input now_left (leaves mid.script.input mid.script.told) in
         record { more = a.more; left_is = a.left_is; each = each_taken now.held a.more a.whole holds.short holds.free }
 
     -- the input goes on
-    beyond : ((bytes : List ℕ) → ahead reader left ≡ Some bytes → FindsError reader bytes TooLongError) → Beyond m (OpensWhatever m) state start cs before all
+    beyond : ((bytes : List ℕ) → ahead reader left ≡ Some bytes → FindsError reader bytes TooLongError) → Beyond m (Unsealed m) state start cs before all
     beyond finds =
         let input = mid.script.input in
         let front = mid.script.front in
@@ -184,22 +189,22 @@ module _ (m : Model) (on : Disk → Disk → m.Document → Type 0) (reader : Re
         let behind : drop (2 ^ 40) all ≡ drop (room reader) input = ap (λ (x : List ℕ). drop (2 ^ 40) x) mid.script.taken ∙ ap (λ (k : ℕ). drop k (front ++ input)) (sym turned) ∙ drop-append-add front input (room reader) in
         record {
           longer = omega (arith, ap (λ (x : List ℕ). length x) mid.script.taken, length-append front input, f.0, n);
-          each = subst (λ x. EachTaken m (OpensWhatever m) state start cs before all x) (sym behind)
+          each = subst (λ x. EachTaken m (Unsealed m) state start cs before all x) (sym behind)
               (each_taken (take (room reader) input) (drop (room reader) input) (sym (take-append-drop (room reader) input)) (omega (arith, length-take (room reader) input, f.2)) f.1);
         }
 
     -- what comes is no command
     fault : (n : ℕ) (kind : Kind) → ((bytes : List ℕ) → ahead reader left ≡ Some bytes → FindsError reader bytes (FaultError n kind)) → CountsError now (FaultError n kind)
-        → StopsSo all cs end (FaultError n kind) × AllDone m (OpensWhatever m) state start cs before
+        → StopsSo all cs end (FaultError n kind) × AllDone m (Unsealed m) state start cs before
     fault n kind finds counts =
         let over = reads_fault (length mid.script.done + 1) mid.script.input kind mid.script.rest end (shown_fault (room reader) kind mid.script.input (finds mid.script.input mid.script.told)) mid.script.reads in
-        (stops reader now left all cs end (FaultError n kind) sound mid.script same finds counts, stands_open m on opens state _ _ (all_done over.0))
+        (stops reader now left all cs end (FaultError n kind) sound mid.script same finds counts, stands_rest m on rests state _ _ (all_done over.0))
 
-    between : Between m (OpensWhatever m) state start cs before
-    between = record { done = mid.script.done; rest = mid.script.rest; whole = mid.script.whole; stands = stands_open m on opens state _ _ mid.stands }
+    between : Between m (Unsealed m) state start cs before
+    between = record { done = mid.script.done; rest = mid.script.rest; whole = mid.script.whole; stands = stands_rest m on rests state _ _ mid.stands }
 
     pub reader_stops : (error : ScriptError) → ((bytes : List ℕ) → ahead reader left ≡ Some bytes → FindsError reader bytes error) → ((bytes : List ℕ) → ahead reader left ≡ Some bytes → LeavesError reader now bytes (ahead now now_left) error)
-        → CountsError now error → StopsAt m (OpensWhatever m) state now_left start cs end before all (stop_by error)
+        → CountsError now error → StopsAt m (Unsealed m) state now_left start cs end before all (stop_by error)
     reader_stops (FaultError n kind) finds leaves counts = fault n kind finds counts
     reader_stops InputError finds leaves counts = failing leaves counts
     reader_stops TooLongError finds leaves counts = beyond finds

@@ -1,33 +1,48 @@
 -- A text that is said while a document stands.
-use Rattle.std.proofs.Common.{◌≡◌, inl, inr, ℕ, None, Some, List, take, ◌++◌, ◌∙◌, ap, refl, sym, subst}
+use Rattle.std.proofs.Common.{◌≡◌, ◌⊎◌, inl, inr, ⊎_elim, ℕ, None, Some, List, take, ◌++◌, ◌∙◌, ap, arith, refl, sym, subst}
+use Rattle.std.specs.Option.{ForSome}
 use Rattle.std.specs.Prelude.{option_map}
+use Rattle.std.proofs.lemmas.Option.{same_Some}
 use Rattle.czi_script.specs.Script.{Command}
-use Rattle.czi_session.specs.Course.{Model, OnlySays, Stands, EitherSide, WhileSaid, WithinStep, OpensNow, OpensWhatever}
+use Rattle.czi_session.specs.Course.{Model, OnlySays, Resting, RestsNow, Sealing, Stands, EitherSide, Unsealed, WhileSaid, WithinStep}
 use Rattle.czi_rig.specs.declared.rig.Rig.{Ghosts}
-use Rattle.czi_rig.specs.Disk.{Disk}
-use Rattle.czi_rig.specs.State.{State, SameFiles, MayLeaveSaying}
-use Rattle.czi_rig.specs.Passes.{Passes}
-use Rattle.czi_rig.specs.Moments.{Throughout, LeavesSaying}
-use Rattle.czi_rig.proofs.Known.{said_known, known_said}
+use Rattle.czi_rig.specs.declared.file.File.{File}
+use Rattle.czi_rig.specs.declared.file.File.TheVariants.{Image, Journal}
+use Rattle.czi_rig.specs.Disk.{Disk, Left}
+use Rattle.czi_rig.specs.State.{State, SameFiles, MayLeaveSaying, known}
+use Rattle.czi_rig.specs.Passes.{GoesOn, Passes}
+use Rattle.czi_rig.specs.Moments.{CountsNow, OnlyNow, Throughout, LeavesNow, LeavesSaying}
+use Rattle.czi_rig.specs.Spans.{EachTwo, InSpans}
+use Rattle.czi_rig.proofs.Known.{is_honest, known_file, known_seen, leaves_now, may_leave, said_known, known_said}
 use Rattle.czi_rig.proofs.Runs.{run_begins, run_is, run_says, started, weaker}
+use Rattle.czi_rig.proofs.Spans.{during, each_two, one_span, spans_then}
 use Rattle.czi_session.specs.declared.stop.EditorStop.{EditorStop}
 use Rattle.czi_session.specs.declared.stop.EditorStop.TheVariants.{Image as ImageOf, Journal as JournalOf, Memory as MemoryOf}
 use Rattle.czi_rig.specs.Faults.{image as the_image, journal as the_journal}
 use Rattle.czi_session.specs.Stops.{editor_device, stop_of}
-use Rattle.czi_session.specs.Ends.{StepStops}
+use Rattle.czi_session.specs.Ends.{MayBeSealed, StepStops}
+use Rattle.czi_session.proofs.Told.{still_told}
 
-pub while_said : (m : Model) (on : Disk → Disk → m.Document → Type 0) → OpensNow m on → (state : State) (before bytes text : List ℕ) (s : m.Document) (h : Stands m on state before s) → bytes ≡ text
+pub while_said : (m : Model) (on : Disk → Disk → m.Document → Type 0) → RestsNow m on → (state : State) (before bytes text : List ℕ) (s : m.Document) (h : Stands m on state before s) → bytes ≡ text
     → (image journal said : List ℕ) → LeavesSaying h.now bytes image journal said → WhileSaid m s before text image journal said
-while_said m on opens_now state before bytes text s h is i j o l = (
+while_said m on rests_now state before bytes text s h is i j o l = (
   l.0,
   rw (← is) l.1,
   l.2.said_is ∙ ap (λ (x : List ℕ). x ++ take l.0 bytes) h.said_is ∙ ap (λ (x : List ℕ). before ++ take l.0 x) is,
-  opens_now h.now.image h.now.journal s h.stands i j l.2.image_is l.2.journal_is,
+  (rests_now h.now.image h.now.journal s h.stands).rests.opens i j l.2.image_is l.2.journal_is,
+  (rests_now h.now.image h.now.journal s h.stands).rests.alone i l.2.image_is,
 )
 
--- whatever a crash leaves of what something stands on opens to its state
-pub stands_open : (m : Model) (on : Disk → Disk → m.Document → Type 0) → OpensNow m on → (state : State) (said : List ℕ) (s : m.Document) → Stands m on state said s → Stands m (OpensWhatever m) state said s
-stands_open m on opens_now state said s h = record { now = h.now; known = h.known; said_is = h.said_is; stands = opens_now h.now.image h.now.journal s h.stands }
+-- and so it is between two texts
+pub resting_now : (m : Model) (on : Disk → Disk → m.Document → Type 0) → RestsNow m on → (state : State) (before : List ℕ) (s : m.Document) (h : Stands m on state before s)
+    → (image journal said : List ℕ) → LeavesNow h.now image journal said → Resting m s before image journal said
+resting_now m on rests_now state before s h i j o l =
+    let rests = (rests_now h.now.image h.now.journal s h.stands).rests in
+    (rests.opens i j l.image_is l.journal_is, rests.alone i l.image_is, l.said_is ∙ h.said_is)
+
+-- what something stands on rests, and isn't sealed
+pub stands_rest : (m : Model) (on : Disk → Disk → m.Document → Type 0) → RestsNow m on → (state : State) (said : List ℕ) (s : m.Document) → Stands m on state said s → Stands m (Unsealed m) state said s
+stands_rest m on rests_now state said s h = record { now = h.now; known = h.known; said_is = h.said_is; stands = rests_now h.now.image h.now.journal s h.stands }
 
 -- what was said of it
 pub said_known_of : (m : Model) (on : Disk → Disk → m.Document → Type 0) (state : State) (said : List ℕ) (s : m.Document) → Stands m on state said s → state.said ≡ Some said
@@ -45,26 +60,26 @@ said_stands m on old new before bytes text s h is same said = record {
 
 module _ {D : Type 0} (rig : Ghosts D) where
   -- after a command, while its reply is said
-  pub step_says : {first old new : D} (m : Model) (on : Disk → Disk → m.Document → Type 0) → OpensNow m on → (s : m.Document) (c : Command) (before bytes : List ℕ) → Throughout rig first old (EitherSide m s c before)
+  pub step_says : {first old new : D} (m : Model) (on : Disk → Disk → m.Document → Type 0) → RestsNow m on → (s : m.Document) (c : Command) (before bytes : List ℕ) → Throughout rig first old (EitherSide m s c before)
       → Stands m on (rig.state old) before (m.after s c) → bytes ≡ m.reply s c
       → Passes (rig.state old) (rig.state new) (rig.left_since old) (rig.left_since new) (MayLeaveSaying (rig.state old) bytes) → Throughout rig first new (WithinStep m s c before)
-  step_says {old = old} m on opens_now s c before bytes part h is time =
+  step_says {old = old} m on rests_now s c before bytes part h is time =
       run_says rig bytes (run_is rig h.known (weaker rig (λ i j o p. inl p) part)) time
-      (λ i j o l. inr (while_said m on opens_now (rig.state old) before bytes (m.reply s c) (m.after s c) h is i j o l))
+      (λ i j o l. inr (while_said m on rests_now (rig.state old) before bytes (m.reply s c) (m.after s c) h is i j o l))
 
   -- while a text is said
-  pub text_says : {old new : D} (m : Model) (on : Disk → Disk → m.Document → Type 0) → OpensNow m on → (s : m.Document) (bytes before text : List ℕ) → Stands m on (rig.state old) before s → bytes ≡ text
+  pub text_says : {old new : D} (m : Model) (on : Disk → Disk → m.Document → Type 0) → RestsNow m on → (s : m.Document) (bytes before text : List ℕ) → Stands m on (rig.state old) before s → bytes ≡ text
       → Passes (rig.state old) (rig.state new) (rig.left_since old) (rig.left_since new) (MayLeaveSaying (rig.state old) bytes) → Throughout rig old new (WhileSaid m s before text)
-  text_says {old = old} m on opens_now s bytes before text h is time =
-      run_says rig bytes (run_begins rig old h.now _ h.known) time (λ i j o l. while_said m on opens_now (rig.state old) before bytes text s h is i j o l)
+  text_says {old = old} m on rests_now s bytes before text h is time =
+      run_says rig bytes (run_begins rig old h.now _ h.known) time (λ i j o l. while_said m on rests_now (rig.state old) before bytes text s h is i j o l)
 
 -- a command that did nothing stopped
-pub perform_stops : (m : Model) (on : Disk → Disk → m.Document → Type 0) → OpensNow m on → (old new : State) (said : List ℕ) (s : m.Document) (c : Command) (stop : EditorStop) → Stands m on old said s → new.said ≡ old.said
-    → (m.still s c → editor_device stop ≡ None) → (stop ≡ MemoryOf → new ≡ old) → StepStops m (OpensWhatever m) new s c said (stop_of stop)
-perform_stops m on opens_now old new said s c ImageOf h same quiet starved = (same ∙ said_known_of m on old said s h, λ still. let none : Some the_image ≡ None = quiet still in cc)
-perform_stops m on opens_now old new said s c JournalOf h same quiet starved = (same ∙ said_known_of m on old said s h, λ still. let none : Some the_journal ≡ None = quiet still in cc)
-perform_stops m on opens_now old new said s c MemoryOf h same quiet starved =
-    subst (λ (state : State). Stands m (OpensWhatever m) state said s) (sym (starved refl)) (stands_open m on opens_now old said s h)
+pub perform_stops : (m : Model) (on : Disk → Disk → m.Document → Type 0) → RestsNow m on → (old new : State) (said : List ℕ) (s : m.Document) (c : Command) (stop : EditorStop) → Stands m on old said s → new.said ≡ old.said
+    → (m.still s c → editor_device stop ≡ None) → (stop ≡ MemoryOf → new ≡ old) → StepStops m (Unsealed m) new s c said (stop_of stop)
+perform_stops m on rests_now old new said s c ImageOf h same quiet starved = (same ∙ said_known_of m on old said s h, λ still. let none : Some the_image ≡ None = quiet still in cc)
+perform_stops m on rests_now old new said s c JournalOf h same quiet starved = (same ∙ said_known_of m on old said s h, λ still. let none : Some the_journal ≡ None = quiet still in cc)
+perform_stops m on rests_now old new said s c MemoryOf h same quiet starved =
+    subst (λ (state : State). Stands m (Unsealed m) state said s) (sym (starved refl)) (stands_rest m on rests_now old said s h)
 
 module _ {D : Type 0} (rig : Ghosts D) where
   -- no call was made
@@ -82,5 +97,41 @@ module _ {D : Type 0} (rig : Ghosts D) where
     moments = λ all known. run_says rig bytes (run_begins rig mid all _ known) time (λ i j o now. now);
   }))
 
-pub opens_as_said : (m : Model) → OpensNow m (OpensWhatever m)
-opens_as_said m image journal s h = h
+-- files that rest
+pub rests_as_said : (m : Model) → RestsNow m (Unsealed m)
+rests_as_said m image journal s h = h
+
+module _ {D : Type 0} (rig : Ghosts D) (only : OnlyNow rig) (m : Model) (on : Disk → Disk → m.Document → Type 0) (rests_now : RestsNow m on) (s : m.Document) (before : List ℕ) where
+  alike_during : {old new : D} → (h : Stands m on (rig.state old) before s) → Throughout rig old new (λ image journal said. Left h.now.image.durable image × Left h.now.journal.durable journal) → EachTwo rig old new m.alike
+  alike_during h run = each_two rig m.alike (λ i j o i' j' o' one two. (rests_now h.now.image h.now.journal s h.stands).rests.alike i j i' j' one.0 one.1 two.0 two.1)
+      (during rig h.now only h.known run (λ i j o l. (l.image_is, l.journal_is)))
+
+  -- any two pairs that a crash leaves while nothing is done, or a text is said
+  pub resting_alike : (r : D) → Stands m on (rig.state r) before s → EachTwo rig r r m.alike
+  resting_alike r h = alike_during h (started rig r _)
+
+  pub saying_alike : {old new : D} (bytes : List ℕ) → Stands m on (rig.state old) before s → Passes (rig.state old) (rig.state new) (rig.left_since old) (rig.left_since new) (MayLeaveSaying (rig.state old) bytes)
+      → EachTwo rig old new m.alike
+  saying_alike {old = old} bytes h time = alike_during h (run_says rig bytes (run_begins rig old h.now _ h.known) time (λ i j o l. (l.2.image_is, l.2.journal_is)))
+
+  -- after something that was done
+  pub done_alike : (old mid new : D) (bytes : List ℕ) → EachTwo rig old mid m.alike → Stands m on (rig.state mid) before s → Passes (rig.state mid) (rig.state new) (rig.left_since mid) (rig.left_since new) (MayLeaveSaying (rig.state mid) bytes)
+      → InSpans rig old new m.alike
+  done_alike old mid new bytes done h time = spans_then rig m.alike old mid new (one_span rig m.alike old mid done) (one_span rig m.alike mid new (saying_alike bytes h time))
+
+  -- a journal after its sealing, also where that failed
+  pub may_be_sealed : {old new : D} → CountsNow rig → ((r : D) (f : File) → ForSome (known (rig.state r) f) (λ disk. Left disk.durable disk.seen)) → Stands m on (rig.state old) before s
+      → GoesOn (rig.state old) (rig.state new) → (rig.state new).said ≡ (rig.state old).said → Throughout rig old new (Sealing m s before) → MayBeSealed m (rig.state new) s
+  may_be_sealed {old = old} {new = new} counts reads h goes same run = λ journal is.
+      let still = still_told (rig.state old) (rig.state new) h.now h.known goes same in
+      let now = still.now in
+      let t : ℕ = (rig.state old).moment in
+      let left : LeavesNow now now.image.seen now.journal.seen now.said = record {
+        image_is = reads new Image now.image (known_file (rig.state new) Image now still.known);
+        journal_is = reads new Journal now.journal (known_file (rig.state new) Journal now still.known);
+        said_is = refl;
+      } in
+      subst (λ (j : List ℕ). m.holds s j ⊎ m.void j) (same_Some now.journal.seen journal (sym (known_seen (rig.state new) Journal now still.known) ∙ is)) (⊎_elim
+      (λ was. inl ((rests_now h.now.image h.now.journal s h.stands).holds.left _ (may_leave (rig.state old) h.now h.known _ _ _ (only old _ _ _ (is_honest (rig.state old) h.now h.known) was)).journal_is))
+      (λ p. p.1)
+      (run.each t _ _ _ (omega arith) (counts new t _ _ _ run.later (leaves_now (rig.state new) now still.known _ _ _ left))))

@@ -1,25 +1,33 @@
 -- A run of commands, and what a crash leaves of it.
-use Rattle.std.specs.Prelude.{◌≡◌, ◌⊎◌, ℕ, zero, suc, ◌+◌, ◌≤◌, List, [], ◌∷◌, ◌++◌, length, take, Option, Some}
+use Rattle.std.specs.Prelude.{◌≡◌, ◌⊎◌, ℕ, zero, suc, ◌+◌, ◌-◌, ◌≤◌, List, [], ◌∷◌, ◌++◌, length, take, Option, Some}
 use Rattle.std.specs.List.{concat}
 use Rattle.std.specs.Option.{ForSome}
 use Rattle.czi_script.specs.Script.{Command, End, Reads}
-use Rattle.czi_rig.specs.Disk.{Disk, Left}
-use Rattle.czi_rig.specs.State.{State, Instant, SameFiles}
+use Rattle.czi_rig.specs.Disk.{Disk, Left, Everywhere}
+use Rattle.czi_rig.specs.State.{State, Instant, SameFiles, seen_of}
 use Rattle.czi_rig.specs.declared.rig.Rig.{Ghosts}
+use Rattle.czi_rig.specs.declared.file.File.TheVariants.{Image, Journal}
 use Rattle.czi_rig.specs.Faults.{Device}
 use Rattle.czi_rig.specs.Moments.{Devices, LeavesSaying, devices, Throughout, Always}
+use Rattle.czi_rig.specs.Spans.{During, InSpans}
 use Rattle.czi_session.specs.Stops.{IsFile}
 
--- What an editor is about: its states; which of them an image and a journal that a crash leaves open to; at which of them a
--- run over an image and a journal begins; which pairs are refused and with what text; which pairs stand for what an earlier
--- one stood for; which journals are void; what a command makes of a state, and its reply there; and which commands change
--- nothing of a state, as queries and edits that are refused.
+-- What an editor is about: its states; which of them an image and a journal that a crash leaves open to; which images, read
+-- without a journal, wait for it or show a state's document; which image a pair stands for; which two pairs have the same bytes
+-- in each item that both need; at which states a run over an image and a journal begins; which pairs are refused and with what
+-- text; which pairs stand for what an earlier one stood for; what a journal that isn't sealed says at a state; which journals are
+-- void; what a command makes of a state, and its reply there; and which commands change nothing of a state, as queries and edits
+-- that are refused.
 pub record Model : Type 1 where
   pub Document : Type 0
   pub opens : List ℕ → List ℕ → Document → Type 0
+  pub alone : List ℕ → Document → Type 0
+  pub recovers : (image journal bytes : List ℕ) → Type 0
+  pub alike : (image journal other_image other_journal : List ℕ) → Type 0
   pub begins : List ℕ → List ℕ → Document → Type 0
   pub refuses : List ℕ → List ℕ → List ℕ → Type 0
   pub keeps : (image journal now_image now_journal : List ℕ) → Type 0
+  pub holds : Document → List ℕ → Type 0
   pub void : List ℕ → Type 0
   pub after : Document → Command → Document
   pub reply : Document → Command → List ℕ
@@ -65,6 +73,12 @@ pub record OpensToPrefix (m : Model) (start : m.Document) (cs : List Command) (l
   pub n : ℕ
   pub every_reply : said_since ≡ concat (take k (replies m start cs)) ++ take n (text_at (replies m start cs) last k)
 
+-- Beside that, the image that was left, read without its journal, waits for it or shows the document of that state, or of the one
+-- before the last of the j commands.
+pub record ReadsToPrefix (m : Model) (start : m.Document) (cs : List Command) (last before image journal said : List ℕ) : Type 0 where
+  pub prefix : OpensToPrefix m start cs last before image journal said
+  pub alone : m.alone image (state_after m start (take prefix.j cs)) ⊎ m.alone image (state_after m start (take (prefix.j - 1) cs))
+
 -- something stands on both files at this state, and this was said
 pub record Stands (m : Model) (on : Disk → Disk → m.Document → Type 0) (state : State) (said : List ℕ) (s : m.Document) : Type 0 where
   pub now : Devices
@@ -72,21 +86,30 @@ pub record Stands (m : Model) (on : Disk → Disk → m.Document → Type 0) (st
   pub said_is : now.said ≡ said
   pub stands : on now.image now.journal s
 
--- inside one command, before its reply
+-- while the files are opened
+abbrev pub Open : (m : Model) → m.Document → List ℕ → Instant
+Open m s before image journal said = m.opens image journal s × (said ≡ before)
+
+-- between two texts
+abbrev pub Resting : (m : Model) → m.Document → List ℕ → Instant
+Resting m s before image journal said = m.opens image journal s × m.alone image s × (said ≡ before)
+
+-- Inside one command, before its reply. Read without its journal, the image waits for it or shows the document of the state to
+-- which the pair opens, or of the one before.
 abbrev pub EitherSide : (m : Model) → m.Document → Command → List ℕ → Instant
-EitherSide m s c before image journal said = (m.opens image journal s ⊎ m.opens image journal (m.after s c)) × (said ≡ before)
+EitherSide m s c before image journal said = ((m.opens image journal s × m.alone image s) ⊎ (m.opens image journal (m.after s c) × (m.alone image s ⊎ m.alone image (m.after s c)))) × (said ≡ before)
 
 -- inside a text that is said at one state
 abbrev pub WhileSaid : (m : Model) → m.Document → List ℕ → List ℕ → Instant
-WhileSaid m s before text image journal said = (n : ℕ) × (n ≤ length text) × (said ≡ before ++ take n text) × m.opens image journal s
+WhileSaid m s before text image journal said = (n : ℕ) × (n ≤ length text) × (said ≡ before ++ take n text) × m.opens image journal s × m.alone image s
 
 -- inside one command and its reply
 abbrev pub WithinStep : (m : Model) → m.Document → Command → List ℕ → Instant
 WithinStep m s c before image journal said = EitherSide m s c before image journal said ⊎ WhileSaid m (m.after s c) before (m.reply s c) image journal said
 
--- between two texts
-abbrev pub Open : (m : Model) → m.Document → List ℕ → Instant
-Open m s before image journal said = m.opens image journal s × (said ≡ before)
+-- while the journal is sealed it says what it said, or is void
+abbrev pub Sealing : (m : Model) → m.Document → List ℕ → Instant
+Sealing m s before image journal said = Resting m s before image journal said × (m.holds s journal ⊎ m.void journal)
 
 -- what reads give are the image and the journal of a run that begins at this state
 pub record Opening (m : Model) (state : State) (said : List ℕ) (s : m.Document) : Type 0 where
@@ -95,9 +118,23 @@ pub record Opening (m : Model) (state : State) (said : List ℕ) (s : m.Document
   pub said_is : now.said ≡ said
   pub begins : m.begins now.image.seen now.journal.seen s
 
--- whatever a crash leaves of both files opens to this state
-abbrev pub OpensWhatever : (m : Model) → Disk → Disk → m.Document → Type 0
-OpensWhatever m image journal s = (i j : List ℕ) → Left image.durable i → Left journal.durable j → m.opens i j s
+-- Both files rest at a state. Whatever a crash leaves of them opens to it and stands for the image as read; the image alone waits
+-- for its journal or shows the document; and any two pairs have the same bytes in each item that both need.
+pub record Rests (m : Model) (image journal : Disk) (s : m.Document) : Type 0 where
+  pub opens : (i j : List ℕ) → Left image.durable i → Left journal.durable j → m.opens i j s
+  pub alone : (i : List ℕ) → Left image.durable i → m.alone i s
+  pub itself : (i j : List ℕ) → Left image.durable i → Left journal.durable j → m.recovers i j image.seen
+  pub alike : (i j i' j' : List ℕ) → Left image.durable i → Left journal.durable j → Left image.durable i' → Left journal.durable j' → m.alike i j i' j'
+
+-- and the journal, as read and as a crash leaves it, isn't sealed
+pub record Unsealed (m : Model) (image journal : Disk) (s : m.Document) : Type 0 where
+  pub rests : Rests m image journal s
+  pub holds : Everywhere (m.holds s) journal
+
+-- or it is void
+pub record Sealed (m : Model) (image journal : Disk) (s : m.Document) : Type 0 where
+  pub rests : Rests m image journal s
+  pub void : Everywhere m.void journal
 
 -- no crash leaves anything that it couldn't have left at the start
 abbrev pub Nothing : {D : Type 0} → Ghosts D → D → D → Type 0
@@ -115,6 +152,31 @@ pub record From {D : Type 0} (rig : Ghosts D) (old new : D) (P : Instant) : Type
 abbrev pub OnceDurable : {D : Type 0} → Ghosts D → D → D → Instant → Option Device → Type 0
 OnceDurable rig old new P at = (Nothing rig old new × IsFile at) ⊎ From rig old new P
 
+-- From the moment at which the files are durable the time falls into spans, in each of which any two pairs that a crash leaves
+-- have the same bytes in each item that both need.
+pub record AlikeFrom {D : Type 0} (rig : Ghosts D) (old new : D) (m : Model) : Type 0 where
+  pub then : D
+  pub before : Nothing rig old then
+  pub spans : InSpans rig then new m.alike
+
+-- only where one of the two files fails that moment may not have come
+abbrev pub OnceAlike : {D : Type 0} → Ghosts D → D → D → Model → Option Device → Type 0
+OnceAlike rig old new m at = (Nothing rig old new × IsFile at) ⊎ AlikeFrom rig old new m
+
+-- The files were opened at a state: they rested at it, with nothing said. From then on whatever a crash leaves opens and reads to
+-- a prefix of the commands.
+pub record Runs {D : Type 0} (rig : Ghosts D) (old new : D) (m : Model) (start : m.Document) (cs : List Command) (last said : List ℕ) : Type 0 where
+  pub opened : D
+  pub opening : From rig old opened (Open m start said)
+  pub rested : Stands m (Unsealed m) (rig.state opened) said start
+  pub running : During rig opened new (ReadsToPrefix m start cs last said)
+
+-- At every moment of a run that begins at a state: the files were opened and the commands run; or the run ended while the files
+-- were opened, and once they are durable what a crash leaves opens to that state, with nothing said; or it ended so early that
+-- nothing new was left.
+abbrev pub AtEveryMoment : {D : Type 0} → Ghosts D → D → D → (m : Model) → m.Document → List Command → (last said : List ℕ) → (early unopened : Type 0) → Type 0
+AtEveryMoment rig old new m start cs last said early unopened = (Nothing rig old new × early) ⊎ (From rig old new (Open m start said) × unopened) ⊎ Runs rig old new m start cs last said
+
 -- Both files were left alone while this text was said: a crash leaves what it could leave of them before.
 pub record OnlySays {D : Type 0} (rig : Ghosts D) (old new : D) (text : List ℕ) : Type 0 where
   pub files : SameFiles (rig.state old) (rig.state new)
@@ -124,7 +186,7 @@ pub record OnlySays {D : Type 0} (rig : Ghosts D) (old new : D) (text : List ℕ
 pub record RepliesOnly {D : Type 0} (rig : Ghosts D) (old new : D) (m : Model) (said reply : List ℕ) (s : m.Document) : Type 0 where
   pub replied : D
   pub replying : OnlySays rig old replied reply
-  pub sealing : Throughout rig replied new (Open m s (said ++ reply))
+  pub sealing : Throughout rig replied new (Sealing m s (said ++ reply))
 
 -- The files were opened at a state, then left alone while this reply was said, and then the journal was sealed at most.
 pub record OnlyReads {D : Type 0} (rig : Ghosts D) (old new : D) (m : Model) (said reply : List ℕ) (first last : m.Document) : Type 0 where
@@ -146,9 +208,16 @@ pub record Begins (m : Model) (left : Option (List ℕ)) (state : State) (cs : L
   pub reads : Reads 1 input cs end
   pub opening : Opening m state said s
 
--- the law of an editor: whatever a crash leaves of the files that it stands on opens to its state
-abbrev pub OpensNow : (m : Model) → (Disk → Disk → m.Document → Type 0) → Type 0
-OpensNow m on = (image journal : Disk) (s : m.Document) → on image journal s → OpensWhatever m image journal s
+-- the law of an editor: the files that it stands on rest at its state, and the journal isn't sealed
+abbrev pub RestsNow : (m : Model) → (Disk → Disk → m.Document → Type 0) → Type 0
+RestsNow m on = (image journal : Disk) (s : m.Document) → on image journal s → Unsealed m image journal s
+
+-- The journal as read is what it was, and so is the image, or it is what both files stood for.
+pub record OnlyRecovered (m : Model) (all : Devices) (state : State) : Type 0 where
+  pub journal : seen_of state Journal ≡ Some all.journal.seen
+  pub bytes : List ℕ
+  pub image : seen_of state Image ≡ Some bytes
+  pub same : (bytes ≡ all.image.seen) ⊎ m.recovers all.image.seen all.journal.seen bytes
 
 -- what reads give isn't refused
 abbrev pub IsUnrefused : Model → State → Type 0

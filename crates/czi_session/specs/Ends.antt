@@ -3,7 +3,8 @@ use Rattle.std.specs.Prelude.{◌≡◌, ◌⊎◌, ℕ, ◌+◌, ◌<◌, ◌�
 use Rattle.std.specs.Option.{ForSome}
 use Rattle.std.specs.List.{concat}
 use Rattle.czi_rig.specs.Disk.{Disk}
-use Rattle.czi_rig.specs.State.{State}
+use Rattle.czi_rig.specs.declared.file.File.TheVariants as files
+use Rattle.czi_rig.specs.State.{State, seen_of}
 use Rattle.czi_rig.specs.Moments.{Devices, devices}
 use Rattle.czi_rig.specs.Passes.{Rose}
 use Rattle.czi_script.specs.declared.kind.Kind.{Kind}
@@ -17,17 +18,24 @@ use Rattle.czi_session.specs.declared.stop.Stop.TheVariants.{Script, Image, Jour
 use Rattle.czi_session.specs.declared.stop.Ended.{Ended}
 use Rattle.czi_session.specs.declared.stop.Ended.TheVariants.{Done, Refused, Stopped}
 use Rattle.czi_session.specs.Text.{fault_line}
-use Rattle.czi_session.specs.Course.{Model, Stands, OpensWhatever, state_after, replies}
+use Rattle.czi_session.specs.Course.{Model, OnlyRecovered, Sealed, Stands, Unsealed, state_after, replies}
 
 -- a pair that opens isn't refused
 abbrev pub OpensSo : OpenStop → Type 0
 OpensSo (RefusedOf text) = ⊥
 OpensSo (StoppedOf stop) = Unit {0}
 
--- a refusal is that of the pair
-abbrev pub Refuses : Model → List ℕ → List ℕ → OpenStop → Type 0
-Refuses m image journal (RefusedOf text) = m.refuses image journal text.items
-Refuses m image journal (StoppedOf stop) = Unit {0}
+-- A refusal is that of the pair, and both files are as they were, but for a recovery.
+abbrev pub Refuses : Model → Devices → State → OpenStop → Type 0
+Refuses m all state (RefusedOf text) = m.refuses all.image.seen all.journal.seen text.items × OnlyRecovered m all state
+Refuses m all state (StoppedOf stop) = Unit {0}
+
+-- The journal as read isn't sealed, at a state. Or it may be: it says what it said, or is void.
+abbrev pub IsUnsealed : (m : Model) → State → m.Document → Type 0
+IsUnsealed m state s = ForSome (seen_of state files.Journal) (m.holds s)
+
+abbrev pub MayBeSealed : (m : Model) → State → m.Document → Type 0
+MayBeSealed m state s = ForSome (seen_of state files.Journal) (λ journal. m.holds s journal ⊎ m.void journal)
 
 module _ (m : Model) (on : Disk → Disk → m.Document → Type 0) (state : State) where
   -- Where one command and its reply stop, this was said. A file fails only in a command that changes something. At a fault of
@@ -109,7 +117,8 @@ module _ (m : Model) (on : Disk → Disk → m.Document → Type 0) (state : Sta
   RunStops left start cs end before all Input = Failing left start cs before all
   RunStops left start cs end before all TooLong = Beyond start cs before all
   RunStops left start cs end before all Image = Inside start cs before Image
-  RunStops left start cs end before all Journal = Inside start cs before Journal ⊎ ((end ≡ DoneOf) × (state.said ≡ Some (before ++ concat (replies m start cs))))
+  RunStops left start cs end before all Journal = Inside start cs before Journal
+      ⊎ ((end ≡ DoneOf) × (state.said ≡ Some (before ++ concat (replies m start cs))) × MayBeSealed m state (state_after m start cs))
   RunStops left start cs end before all Output = Inside start cs before Output
       ⊎ ((number : ℕ) × (kind : Kind) × (n : ℕ) × (end ≡ Fault number kind) × (n ≤ length (fault_line number kind)) × Stands m on state (before ++ concat (replies m start cs) ++ take n (fault_line number kind)) (state_after m start cs))
   RunStops left start cs end before all Memory = Inside start cs before Memory ⊎ Between start cs before
@@ -124,24 +133,25 @@ module _ (m : Model) (on : Disk → Disk → m.Document → Type 0) (state : Sta
   TextStops s number kind before Input = ⊥
   TextStops s number kind before TooLong = ⊥
 
--- an opening of files that open stops so: nothing was said
-abbrev pub OpeningSays : State → List ℕ → Stop → Type 0
-OpeningSays state said Image = state.said ≡ Some said
-OpeningSays state said Journal = state.said ≡ Some said
-OpeningSays state said Memory = state.said ≡ Some said
-OpeningSays state said Output = ⊥
-OpeningSays state said Input = ⊥
-OpeningSays state said (Script number kind) = ⊥
-OpeningSays state said TooLong = ⊥
+-- an opening of files that open stops so: nothing was said, and the journal isn't sealed
+abbrev pub OpeningSays : (m : Model) → State → m.Document → List ℕ → Stop → Type 0
+OpeningSays m state s said Image = (state.said ≡ Some said) × IsUnsealed m state s
+OpeningSays m state s said Journal = (state.said ≡ Some said) × IsUnsealed m state s
+OpeningSays m state s said Memory = (state.said ≡ Some said) × IsUnsealed m state s
+OpeningSays m state s said Output = ⊥
+OpeningSays m state s said Input = ⊥
+OpeningSays m state s said (Script number kind) = ⊥
+OpeningSays m state s said TooLong = ⊥
 
-abbrev pub OpeningEnds : State → List ℕ → Ended → Type 0
-OpeningEnds state said Done = ⊥
-OpeningEnds state said Refused = ⊥
-OpeningEnds state said (Stopped stop) = OpeningSays state said stop
+abbrev pub OpeningEnds : (m : Model) → State → m.Document → List ℕ → Ended → Type 0
+OpeningEnds m state s said Done = ⊥
+OpeningEnds m state s said Refused = ⊥
+OpeningEnds m state s said (Stopped stop) = OpeningSays m state s said stop
 
--- where all is known, the pair is one that is refused, and what was said is its text
+-- Where all is known, the pair is one that is refused, what was said is its text, and both files are as they were, but for a
+-- recovery.
 abbrev pub RefusedSo : Model → State → State → Type 0
-RefusedSo m old new = (all : Devices) → devices old ≡ Some all → (text : List ℕ) × m.refuses all.image.seen all.journal.seen text × (new.said ≡ Some (all.said ++ text))
+RefusedSo m old new = (all : Devices) → devices old ≡ Some all → (text : List ℕ) × m.refuses all.image.seen all.journal.seen text × (new.said ≡ Some (all.said ++ text)) × OnlyRecovered m all new
 
 -- How a run over a pair ends that is refused with this text: it was said whole; a front of it, where the output failed; and
 -- nothing, where a file failed or memory was wanting.
@@ -161,14 +171,14 @@ abbrev pub RefusedEnds : Model → State → State → Ended → Type 0
 RefusedEnds m old new ended = (all : Devices) (text : List ℕ) → devices old ≡ Some all → m.refuses all.image.seen all.journal.seen text → SaysRefusal new.said all.said text ended
 
 -- the same, with nothing taken
-abbrev pub OpeningStops : State → Option (List ℕ) → List ℕ → List ℕ → Stop → Type 0
-OpeningStops state left said all stop = OpeningSays state said stop × (left ≡ Some all)
+abbrev pub OpeningStops : (m : Model) → State → Option (List ℕ) → m.Document → List ℕ → List ℕ → Stop → Type 0
+OpeningStops m state left s said all stop = OpeningSays m state s said stop × (left ≡ Some all)
 
--- a run that could open ends so
+-- A run that could open ends so. At its end the journal is sealed; where it stops before, for no fault of a file, it isn't.
 abbrev pub EndsSo : (m : Model) → State → Option (List ℕ) → m.Document → List Command → End → List ℕ → List ℕ → Ended → Type 0
-EndsSo m state left start cs end before all Done = Whole m (OpensWhatever m) state left start cs end before all
+EndsSo m state left start cs end before all Done = Whole m (Sealed m) state left start cs end before all
 EndsSo m state left start cs end before all Refused = ⊥
-EndsSo m state left start cs end before all (Stopped stop) = OpeningStops state left before all stop ⊎ RunStops m (OpensWhatever m) state left start cs end before all stop
+EndsSo m state left start cs end before all (Stopped stop) = OpeningStops m state left start before all stop ⊎ RunStops m (Unsealed m) state left start cs end before all stop
 
 -- no fault came
 pub record Quiet (old new : State) (before now : ℕ) : Type 0 where
@@ -209,10 +219,10 @@ pub record Takes (before after : Option (List ℕ)) (most : ℕ) : Type 0 where
 
 -- One command alone stops so: inside it, or at the sealing.
 abbrev pub OneStops : (m : Model) → State → m.Document → Command → List ℕ → Stop → Type 0
-OneStops m state s c before stop = StepStops m (OpensWhatever m) state s c before stop ⊎ ((stop ≡ Journal) × (state.said ≡ Some (before ++ m.reply s c)))
+OneStops m state s c before stop = StepStops m (Unsealed m) state s c before stop ⊎ ((stop ≡ Journal) × (state.said ≡ Some (before ++ m.reply s c)) × MayBeSealed m state (m.after s c))
 
 -- a run of one command that could open ends so
 abbrev pub OneEnds : (m : Model) → State → m.Document → Command → List ℕ → Ended → Type 0
-OneEnds m state s c before Done = Stands m (OpensWhatever m) state (before ++ m.reply s c) (m.after s c)
+OneEnds m state s c before Done = Stands m (Sealed m) state (before ++ m.reply s c) (m.after s c)
 OneEnds m state s c before Refused = ⊥
-OneEnds m state s c before (Stopped stop) = OpeningSays state before stop ⊎ OneStops m state s c before stop
+OneEnds m state s c before (Stopped stop) = OpeningSays m state s before stop ⊎ OneStops m state s c before stop

@@ -76,3 +76,15 @@ abbrev pub EndsUnopened : Ended → Type 0
 EndsUnopened Done = ⊥
 EndsUnopened Refused = Unit {0}
 EndsUnopened (Stopped stop) = StopsAlone stop
+
+-- the opening of files that open ends so at most
+abbrev pub EndsOpening : Ended → Type 0
+EndsOpening Done = ⊥
+EndsOpening Refused = ⊥
+EndsOpening (Stopped (Script number kind)) = ⊥
+EndsOpening (Stopped Image) = Unit {0}
+EndsOpening (Stopped Journal) = Unit {0}
+EndsOpening (Stopped Output) = ⊥
+EndsOpening (Stopped Input) = ⊥
+EndsOpening (Stopped Memory) = Unit {0}
+EndsOpening (Stopped TooLong) = ⊥

@@ -4,8 +4,9 @@ ghost use Rattle.std.specs.Prelude.{◌≡◌, ◌++◌, ◌≤◌, List, ℕ, O
 ghost use Rattle.czi_rig.specs.Faults.{FaultsWith, fault_at};
 ghost use Rattle.czi_rig.specs.Passes.{GoesOn};
 ghost use Rattle.czi_rig.specs.Moments.{Throughout};
+ghost use Rattle.czi_rig.specs.Spans.{InSpans};
 ghost use Rattle.czi_script.specs.Script.{Command as Cmd, End};
-ghost use Rattle.czi_session.specs.Course.{Starts, OpensToPrefix, OpensWhatever};
+ghost use Rattle.czi_session.specs.Course.{ReadsToPrefix, Starts, Unsealed};
 ghost use Rattle.czi_session.specs.Stops.{stop_by, stop_device};
 ghost use Rattle.czi_session.specs.Ends.{Whole, StopsAt, Takes, most_taken};
 
@@ -36,10 +37,12 @@ pub(crate) fn commands<E: Editor, R: Rig, S: Source>(
 ) -> Result<(), Stop>
     requires ready { E.ready editor.old (R.state rig.old) }
     ensures moments { (cs : List Cmd) (end : End) (said : List ℕ) (s : E.model.Document) → Starts E.model (E.stands editor.old) (S.input input.old).left (R.state rig.old) cs end said s →
-        (last : List ℕ) → Throughout R.Rig rig.old rig.new (OpensToPrefix E.model s cs last said) }
+        (last : List ℕ) → Throughout R.Rig rig.old rig.new (ReadsToPrefix E.model s cs last said) }
+    ensures alike { (cs : List Cmd) (end : End) (said : List ℕ) (s : E.model.Document) → Starts E.model (E.stands editor.old) (S.input input.old).left (R.state rig.old) cs end said s →
+        InSpans R.Rig rig.old rig.new E.model.alike }
     ensures ends { (cs : List Cmd) (end : End) (said : List ℕ) (s : E.model.Document) → (h : Starts E.model (E.stands editor.old) (S.input input.old).left (R.state rig.old) cs end said s) →
         MatchResult result (λ _. Whole E.model (E.stands editor.new) (R.state rig.new) (S.input input.new).left s cs end said h.input)
-        (λ stop. StopsAt E.model (OpensWhatever E.model) (R.state rig.new) (S.input input.new).left s cs end said h.input stop) }
+        (λ stop. StopsAt E.model (Unsealed E.model) (R.state rig.new) (S.input input.new).left s cs end said h.input stop) }
     ensures ready { OnOk result (E.ready editor.new (R.state rig.new)) }
     ensures takes { Takes (S.input input.old).left (S.input input.new).left (most_taken result) }
     ensures goes_on { GoesOn (R.state rig.old) (R.state rig.new) }

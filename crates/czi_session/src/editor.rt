@@ -2,14 +2,15 @@
 
 ghost use Rattle.std.specs.Prelude.{◌≡◌, ◌<◌, ◌++◌, List, ℕ, Option, Result, MatchResult, IfOk, IfErr, OnOk, length};
 ghost use Rattle.std.specs.Option.{ForSome};
-ghost use Rattle.czi_rig.specs.Disk.{Disk, Left};
+ghost use Rattle.czi_rig.specs.Disk.{Disk};
 ghost use Rattle.czi_rig.specs.State.{State, SameFiles, seen_of};
 ghost use Rattle.czi_rig.specs.Faults.{Faults, device_of, failed_at, fault_at};
 ghost use Rattle.czi_rig.specs.Passes.{GoesOn};
 ghost use Rattle.czi_rig.specs.Moments.{Throughout, Devices, devices};
+ghost use Rattle.czi_rig.specs.Spans.{EachTwo};
 ghost use Rattle.czi_script.specs.Script.{Command as Cmd};
 ghost use Rattle.czi_script.specs.View.{command_of};
-ghost use Rattle.czi_session.specs.Course.{EitherSide, From, IsUnrefused, KeepsFiles, Model, OnceDurable, Open, Opening, OpensWhatever, Stands};
+ghost use Rattle.czi_session.specs.Course.{EitherSide, From, IsUnrefused, KeepsFiles, Model, OnceAlike, OnceDurable, Open, Opening, Sealed, Sealing, Stands, Unsealed};
 ghost use Rattle.czi_session.specs.Stops.{editor_device, open_device};
 ghost use Rattle.czi_session.specs.Ends.{OpensSo, Refuses};
 
@@ -35,14 +36,18 @@ pub trait Editor: Drop {
     /// # Errors
     ///
     /// `Refused` where the pair is refused, with the text that says why. Else it is a fault of a file, whose count alone
-    /// rose, or want of memory. Files that are refused are kept: what a crash leaves stands for what they stood for.
+    /// rose, or want of memory. Files that are refused are kept: what a crash leaves stands for what they stood for. The
+    /// journal is never written.
     fn open<R: Rig>(alloc: Global, rig: &mut R) -> Result<Self, OpenStop>
         ensures opens { (said : List ℕ) (s : model.Document) → Opening model (R.state rig.old) said s → MatchResult result
             (λ editor. From R.Rig rig.old rig.new (Open model s said) × Stands model (stands editor) (R.state rig.new) said s)
             (λ stop. OpensSo stop × OnceDurable R.Rig rig.old rig.new (Open model s said) (open_device stop)) }
+        // Once it is durable, any two pairs that a crash leaves have the same bytes in each item that both need.
+        ensures alike { (said : List ℕ) (s : model.Document) → Opening model (R.state rig.old) said s → OnceAlike R.Rig rig.old rig.new model (fault_at open_device result) }
+        ensures journal { seen_of (R.state rig.new) File.Journal ≡ seen_of (R.state rig.old) File.Journal }
         ensures ready { IfOk result (λ editor. ready editor (R.state rig.new)) }
         ensures unrefused { OnOk result (IsUnrefused model (R.state rig.old)) }
-        ensures refused { IfErr result (λ stop. (all : Devices) → devices (R.state rig.old) ≡ Option.Some all → Refuses model all.image.seen all.journal.seen stop) }
+        ensures refused { IfErr result (λ stop. (all : Devices) → devices (R.state rig.old) ≡ Option.Some all → Refuses model all (R.state rig.new) stop) }
         ensures kept { IfErr result (λ stop. (all : Devices) (text : List ℕ) → devices (R.state rig.old) ≡ Option.Some all → model.refuses all.image.seen all.journal.seen text → OnceDurable R.Rig rig.old rig.new (KeepsFiles model all) (open_device stop)) }
         ensures said { (R.state rig.new).said ≡ (R.state rig.old).said }
         ensures goes_on { GoesOn (R.state rig.old) (R.state rig.new) }
@@ -56,7 +61,6 @@ pub trait Editor: Drop {
     /// A fault of a file, whose count alone rose, or want of memory.
     fn perform<R: Rig>(
         &mut self,
-        alloc: Global,
         rig: &mut R,
         command: &Command,
         reply: &mut Vec<u8>,
@@ -64,6 +68,7 @@ pub trait Editor: Drop {
         requires ready { ready self.old (R.state rig.old) }
         ensures moments { (said : List ℕ) (s : model.Document) → Stands model (stands self.old) (R.state rig.old) said s →
             Throughout R.Rig rig.old rig.new (EitherSide model s (command_of command.now) said) }
+        ensures alike { (said : List ℕ) (s : model.Document) → Stands model (stands self.old) (R.state rig.old) said s → EachTwo R.Rig rig.old rig.new model.alike }
         ensures ok { OnOk result ((said : List ℕ) (s : model.Document) → Stands model (stands self.old) (R.state rig.old) said s →
             (reply.new.items ≡ reply.old.items ++ model.reply s (command_of command.now)) × Stands model (stands self.new) (R.state rig.new) said (model.after s (command_of command.now))) }
         ensures ready { OnOk result (ready self.new (R.state rig.new)) }
@@ -83,15 +88,19 @@ pub trait Editor: Drop {
     /// A call on the journal failed, and its count of faults alone rose.
     fn seal<R: Rig>(self, rig: &mut R) -> Result<(), Failed>
         requires ready { ready self (R.state rig.old) }
-        ensures moments { (said : List ℕ) (s : model.Document) → Stands model (stands self) (R.state rig.old) said s → Throughout R.Rig rig.old rig.new (Open model s said) }
-        ensures ok { OnOk result ((said : List ℕ) (s : model.Document) → Stands model (stands self) (R.state rig.old) said s → Stands model (OpensWhatever model) (R.state rig.new) said s) }
+        ensures moments { (said : List ℕ) (s : model.Document) → Stands model (stands self) (R.state rig.old) said s → Throughout R.Rig rig.old rig.new (Sealing model s said) }
+        ensures alike { (said : List ℕ) (s : model.Document) → Stands model (stands self) (R.state rig.old) said s → EachTwo R.Rig rig.old rig.new model.alike }
+        ensures ok { OnOk result ((said : List ℕ) (s : model.Document) → Stands model (stands self) (R.state rig.old) said s → Stands model (Sealed model) (R.state rig.new) said s) }
         ensures void { OnOk result (ForSome (seen_of (R.state rig.new) File.Journal) model.void) }
         ensures said { (R.state rig.new).said ≡ (R.state rig.old).said }
         ensures goes_on { GoesOn (R.state rig.old) (R.state rig.new) }
         ensures cause { Faults (failed_at result (device_of File.Journal)) (R.state rig.old) (R.state rig.new) };
 
-    /// Whatever a crash leaves of the files that it stands on opens to its state.
-    ghost opens_now: { (editor : Self) (image journal : Disk) (s : model.Document) → stands editor image journal s → (i j : List ℕ) → Left image.durable i → Left journal.durable j → model.opens i j s };
+    /// The files that it stands on rest at its state, and the journal isn't sealed.
+    ghost rests_now: { (editor : Self) (image journal : Disk) (s : model.Document) → stands editor image journal s → Unsealed model image journal s };
+
+    /// Nor is that of files at which a run begins.
+    ghost begins_unsealed: { (image journal : List ℕ) (s : model.Document) → model.begins image journal s → model.holds s journal };
 
     /// It stays ready where both files stay as they are.
     ghost stays_ready: { (editor : Self) (old new : State) → ready editor old → SameFiles old new → GoesOn old new → ready editor new };

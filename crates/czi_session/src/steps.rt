@@ -2,14 +2,15 @@
 
 ghost use Rattle.std.specs.Prelude.{◌≡◌, ◌⊎◌, ◌++◌, List, ℕ, Option, MatchResult, IfOk, IfErr, OnOk};
 ghost use Rattle.std.specs.Option.{ForSome};
-ghost use Rattle.czi_rig.specs.State.{seen_of};
+ghost use Rattle.czi_rig.specs.State.{SameFiles, seen_of};
 ghost use Rattle.czi_rig.specs.Faults.{Faults, fault_at};
 ghost use Rattle.czi_rig.specs.Passes.{GoesOn};
 ghost use Rattle.czi_rig.specs.Moments.{Throughout, Devices, LeavesSaying, devices};
+ghost use Rattle.czi_rig.specs.Spans.{EachTwo, InSpans};
 ghost use Rattle.czi_script.specs.View.{command_of};
-ghost use Rattle.czi_session.specs.Course.{From, IsUnrefused, KeepsRefused, OnceDurable, OnlySays, Open, Opening, OpensWhatever, Stands, WhileSaid, WithinStep};
-ghost use Rattle.czi_session.specs.Stops.{EndsUnopened, IsFile, StopsAlone, end_device, stop_device};
-ghost use Rattle.czi_session.specs.Ends.{SaysRefusal, OpeningEnds, RefusedEnds, RefusedSo, StepStops, TextStops};
+ghost use Rattle.czi_session.specs.Course.{From, IsUnrefused, KeepsRefused, OnceAlike, OnceDurable, OnlySays, Open, Opening, Sealed, Sealing, Stands, Unsealed, WhileSaid, WithinStep};
+ghost use Rattle.czi_session.specs.Stops.{EndsOpening, EndsUnopened, IsFile, StopsAlone, end_device, stop_device};
+ghost use Rattle.czi_session.specs.Ends.{MayBeSealed, SaysRefusal, OpeningEnds, RefusedEnds, RefusedSo, StepStops, TextStops};
 ghost use Rattle.czi_session.specs.Text.{fault_line};
 
 use crate::stop::stop_of;
@@ -23,6 +24,7 @@ use std::alloc::Global;
 fn say_refusal<R: Rig>(rig: &mut R, text: &[u8]) -> Ended
     ensures said { (said : List ℕ) → (R.state rig.old).said ≡ Option.Some said → SaysRefusal (R.state rig.new).said said text.now result }
     ensures moments { ForSome (devices (R.state rig.old)) (λ all. Throughout R.Rig rig.old rig.new (LeavesSaying all text.now)) }
+    ensures files { SameFiles (R.state rig.old) (R.state rig.new) }
     ensures unopened { EndsUnopened result }
     ensures goes_on { GoesOn (R.state rig.old) (R.state rig.new) }
     ensures cause { Faults (end_device result) (R.state rig.old) (R.state rig.new) }
@@ -37,7 +39,8 @@ fn say_refusal<R: Rig>(rig: &mut R, text: &[u8]) -> Ended
 pub(crate) fn opened<E: Editor, R: Rig>(alloc: Global, rig: &mut R) -> Result<E, Ended>
     ensures opens { (said : List ℕ) (s : E.model.Document) → Opening E.model (R.state rig.old) said s → MatchResult result
         (λ editor. From R.Rig rig.old rig.new (Open E.model s said) × Stands E.model (E.stands editor) (R.state rig.new) said s)
-        (λ ended. OpeningEnds (R.state rig.new) said ended × OnceDurable R.Rig rig.old rig.new (Open E.model s said) (end_device ended)) }
+        (λ ended. OpeningEnds E.model (R.state rig.new) s said ended × EndsOpening ended × OnceDurable R.Rig rig.old rig.new (Open E.model s said) (end_device ended)) }
+    ensures alike { (said : List ℕ) (s : E.model.Document) → Opening E.model (R.state rig.old) said s → OnceAlike R.Rig rig.old rig.new E.model (fault_at end_device result) }
     ensures ready { IfOk result (λ editor. E.ready editor (R.state rig.new)) }
     ensures unrefused { OnOk result (IsUnrefused E.model (R.state rig.old)) }
     ensures refused { IfErr result (λ ended. ended ≡ Ended.Refused → RefusedSo E.model (R.state rig.old) (R.state rig.new)) }
@@ -64,11 +67,12 @@ pub(crate) fn step<E: Editor, R: Rig>(
     requires ready { E.ready editor.old (R.state rig.old) }
     ensures moments { (said : List ℕ) (s : E.model.Document) → Stands E.model (E.stands editor.old) (R.state rig.old) said s →
         Throughout R.Rig rig.old rig.new (WithinStep E.model s (command_of command.now) said) }
+    ensures alike { (said : List ℕ) (s : E.model.Document) → Stands E.model (E.stands editor.old) (R.state rig.old) said s → InSpans R.Rig rig.old rig.new E.model.alike }
     ensures ok { OnOk result ((said : List ℕ) (s : E.model.Document) → Stands E.model (E.stands editor.old) (R.state rig.old) said s →
         Stands E.model (E.stands editor.new) (R.state rig.new) (said ++ E.model.reply s (command_of command.now)) (E.model.after s (command_of command.now))) }
     ensures ready { OnOk result (E.ready editor.new (R.state rig.new)) }
     ensures stops { IfErr result (λ stop. (said : List ℕ) (s : E.model.Document) → Stands E.model (E.stands editor.old) (R.state rig.old) said s →
-        StepStops E.model (OpensWhatever E.model) (R.state rig.new) s (command_of command.now) said stop) }
+        StepStops E.model (Unsealed E.model) (R.state rig.new) s (command_of command.now) said stop) }
     // A command that changes nothing leaves both files alone, and stops for no fault of them.
     ensures still { (said : List ℕ) (s : E.model.Document) → Stands E.model (E.stands editor.old) (R.state rig.old) said s → E.model.still s (command_of command.now) →
         OnlySays R.Rig rig.old rig.new (E.model.reply s (command_of command.now)) × (IsFile (fault_at stop_device result) → ⊥) }
@@ -77,7 +81,7 @@ pub(crate) fn step<E: Editor, R: Rig>(
     ensures cause { Faults (fault_at stop_device result) (R.state rig.old) (R.state rig.new) }
 {
     let mut reply = Vec::new(alloc);
-    match editor.perform(alloc, rig, command, &mut reply) {
+    match editor.perform(rig, command, &mut reply) {
         Ok(()) => match rig.say(&reply) {
             Ok(()) => Ok(()),
             Err(_) => Err(Stop::Output),
@@ -86,11 +90,13 @@ pub(crate) fn step<E: Editor, R: Rig>(
     }
 }
 
-/// Seals the journal.
+/// Seals the journal. Where that fails, it says what it said or is void.
 pub(crate) fn sealed<E: Editor, R: Rig>(editor: E, rig: &mut R) -> Result<(), Stop>
     requires ready { E.ready editor (R.state rig.old) }
-    ensures moments { (said : List ℕ) (s : E.model.Document) → Stands E.model (E.stands editor) (R.state rig.old) said s → Throughout R.Rig rig.old rig.new (Open E.model s said) }
-    ensures ok { OnOk result ((said : List ℕ) (s : E.model.Document) → Stands E.model (E.stands editor) (R.state rig.old) said s → Stands E.model (OpensWhatever E.model) (R.state rig.new) said s) }
+    ensures moments { (said : List ℕ) (s : E.model.Document) → Stands E.model (E.stands editor) (R.state rig.old) said s → Throughout R.Rig rig.old rig.new (Sealing E.model s said) }
+    ensures alike { (said : List ℕ) (s : E.model.Document) → Stands E.model (E.stands editor) (R.state rig.old) said s → EachTwo R.Rig rig.old rig.new E.model.alike }
+    ensures ok { OnOk result ((said : List ℕ) (s : E.model.Document) → Stands E.model (E.stands editor) (R.state rig.old) said s → Stands E.model (Sealed E.model) (R.state rig.new) said s) }
+    ensures stopped { (said : List ℕ) (s : E.model.Document) → Stands E.model (E.stands editor) (R.state rig.old) said s → MayBeSealed E.model (R.state rig.new) s }
     ensures void { OnOk result (ForSome (seen_of (R.state rig.new) File.Journal) E.model.void) }
     ensures said { (R.state rig.new).said ≡ (R.state rig.old).said }
     ensures only { IfErr result (λ stop. stop ≡ Stop.Journal) }
@@ -110,8 +116,9 @@ pub(crate) fn say_fault<E: Editor, R: Rig>(
     number: u64,
     kind: Kind,
 ) -> Stop
-    ensures moments { (said : List ℕ) (s : E.model.Document) → Stands E.model (OpensWhatever E.model) (R.state rig.old) said s → Throughout R.Rig rig.old rig.new (WhileSaid E.model s said (fault_line number kind)) }
-    ensures stops { (said : List ℕ) (s : E.model.Document) → Stands E.model (OpensWhatever E.model) (R.state rig.old) said s → TextStops E.model (OpensWhatever E.model) (R.state rig.new) s number kind said result }
+    ensures moments { (said : List ℕ) (s : E.model.Document) → Stands E.model (Unsealed E.model) (R.state rig.old) said s → Throughout R.Rig rig.old rig.new (WhileSaid E.model s said (fault_line number kind)) }
+    ensures alike { (said : List ℕ) (s : E.model.Document) → Stands E.model (Unsealed E.model) (R.state rig.old) said s → EachTwo R.Rig rig.old rig.new E.model.alike }
+    ensures stops { (said : List ℕ) (s : E.model.Document) → Stands E.model (Unsealed E.model) (R.state rig.old) said s → TextStops E.model (Unsealed E.model) (R.state rig.new) s number kind said result }
     ensures only { (result ≡ Stop.Script number kind) ⊎ (result ≡ Stop.Output) ⊎ (result ≡ Stop.Memory) }
     ensures goes_on { GoesOn (R.state rig.old) (R.state rig.new) }
     ensures cause { Faults (stop_device result) (R.state rig.old) (R.state rig.new) }

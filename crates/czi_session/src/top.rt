@@ -6,11 +6,12 @@ ghost use Rattle.czi_rig.specs.State.{seen_of};
 ghost use Rattle.czi_rig.specs.Faults.{Faults, FaultsWith, fault_at};
 ghost use Rattle.czi_rig.specs.Passes.{GoesOn};
 ghost use Rattle.czi_rig.specs.Moments.{Devices, Throughout, devices};
+ghost use Rattle.czi_rig.specs.Spans.{InSpans};
 ghost use Rattle.czi_script.specs.Script.{Command as Cmd, End};
 ghost use Rattle.czi_script.specs.View.{command_of};
-ghost use Rattle.czi_session.specs.Course.{Begins, IsUnrefused, KeepsRefused, OnceDurable, OnlyReads, Opening, OpensToPrefix, OpensWhatever, RepliesOnly, Stands, Starts};
+ghost use Rattle.czi_session.specs.Course.{AtEveryMoment, Begins, IsUnrefused, KeepsRefused, OnceAlike, OnceDurable, OnlyReads, Opening, OpensToPrefix, ReadsToPrefix, RepliesOnly, Sealed, Stands, Starts, Unsealed};
 ghost use Rattle.czi_session.specs.Text.{last_text};
-ghost use Rattle.czi_session.specs.Stops.{EndsAlone, EndsUnopened, StopsAlone, end_device, stop_device};
+ghost use Rattle.czi_session.specs.Stops.{EndsAlone, EndsOpening, EndsUnopened, IsFile, StopsAlone, end_device, stop_device};
 ghost use Rattle.czi_session.specs.Ends.{Answers, EndsSo, OneEnds, OneStops, OpeningEnds, Quiet, RefusedEnds, RefusedSo, RunStops, Takes, Whole, most_of, most_taken};
 
 use crate::commands::commands;
@@ -29,10 +30,12 @@ fn script<E: Editor, R: Rig, S: Source>(
 ) -> Result<(), Stop>
     requires ready { E.ready editor (R.state rig.old) }
     ensures moments { (cs : List Cmd) (end : End) (said : List ℕ) (s : E.model.Document) → Starts E.model (E.stands editor) (S.input input.old).left (R.state rig.old) cs end said s →
-        Throughout R.Rig rig.old rig.new (OpensToPrefix E.model s cs (last_text end) said) }
+        Throughout R.Rig rig.old rig.new (ReadsToPrefix E.model s cs (last_text end) said) }
+    ensures alike { (cs : List Cmd) (end : End) (said : List ℕ) (s : E.model.Document) → Starts E.model (E.stands editor) (S.input input.old).left (R.state rig.old) cs end said s →
+        InSpans R.Rig rig.old rig.new E.model.alike }
     ensures ends { (cs : List Cmd) (end : End) (said : List ℕ) (s : E.model.Document) → (h : Starts E.model (E.stands editor) (S.input input.old).left (R.state rig.old) cs end said s) →
-        MatchResult result (λ _. Whole E.model (OpensWhatever E.model) (R.state rig.new) (S.input input.new).left s cs end said h.input)
-        (λ stop. RunStops E.model (OpensWhatever E.model) (R.state rig.new) (S.input input.new).left s cs end said h.input stop) }
+        MatchResult result (λ _. Whole E.model (Sealed E.model) (R.state rig.new) (S.input input.new).left s cs end said h.input)
+        (λ stop. RunStops E.model (Unsealed E.model) (R.state rig.new) (S.input input.new).left s cs end said h.input stop) }
     ensures void { OnOk result (ForSome (seen_of (R.state rig.new) File.Journal) E.model.void) }
     ensures takes { Takes (S.input input.old).left (S.input input.new).left (most_taken result) }
     ensures goes_on { GoesOn (R.state rig.old) (R.state rig.new) }
@@ -58,9 +61,10 @@ fn single<E: Editor, R: Rig>(
 ) -> Result<(), Stop>
     requires ready { E.ready editor (R.state rig.old) }
     ensures moments { (said : List ℕ) (s : E.model.Document) → Stands E.model (E.stands editor) (R.state rig.old) said s →
-        Throughout R.Rig rig.old rig.new (OpensToPrefix E.model s (command_of command.now ∷ []) [] said) }
+        Throughout R.Rig rig.old rig.new (ReadsToPrefix E.model s (command_of command.now ∷ []) [] said) }
+    ensures alike { (said : List ℕ) (s : E.model.Document) → Stands E.model (E.stands editor) (R.state rig.old) said s → InSpans R.Rig rig.old rig.new E.model.alike }
     ensures ends { (said : List ℕ) (s : E.model.Document) → Stands E.model (E.stands editor) (R.state rig.old) said s →
-        MatchResult result (λ _. Stands E.model (OpensWhatever E.model) (R.state rig.new) (said ++ E.model.reply s (command_of command.now)) (E.model.after s (command_of command.now)))
+        MatchResult result (λ _. Stands E.model (Sealed E.model) (R.state rig.new) (said ++ E.model.reply s (command_of command.now)) (E.model.after s (command_of command.now)))
         (λ stop. OneStops E.model (R.state rig.new) s (command_of command.now) said stop) }
     ensures void { OnOk result (ForSome (seen_of (R.state rig.new) File.Journal) E.model.void) }
     // A command that changes nothing leaves both files alone until its reply is said, and stops for no fault of the image.
@@ -79,8 +83,10 @@ fn single<E: Editor, R: Rig>(
 
 /// Opens the files and runs the script.
 fn edit_all<E: Editor, R: Rig, S: Source>(alloc: Global, rig: &mut R, input: &mut S) -> Ended
-    ensures moments { (cs : List Cmd) (end : End) (said : List ℕ) (s : E.model.Document) → Begins E.model (S.input input.old).left (R.state rig.old) cs end said s →
-        OnceDurable R.Rig rig.old rig.new (OpensToPrefix E.model s cs (last_text end) said) (end_device result) }
+    ensures headline { (cs : List Cmd) (end : End) (said : List ℕ) (s : E.model.Document) → Begins E.model (S.input input.old).left (R.state rig.old) cs end said s →
+        AtEveryMoment R.Rig rig.old rig.new E.model s cs (last_text end) said (IsFile (end_device result)) (EndsOpening result) }
+    ensures alike { (cs : List Cmd) (end : End) (said : List ℕ) (s : E.model.Document) → Begins E.model (S.input input.old).left (R.state rig.old) cs end said s →
+        OnceAlike R.Rig rig.old rig.new E.model (end_device result) }
     ensures ends { (cs : List Cmd) (end : End) (said : List ℕ) (s : E.model.Document) → (h : Begins E.model (S.input input.old).left (R.state rig.old) cs end said s) →
         EndsSo E.model (R.state rig.new) (S.input input.new).left s cs end said h.input result }
     ensures void { result ≡ Ended.Done → ForSome (seen_of (R.state rig.new) File.Journal) E.model.void }
@@ -103,8 +109,9 @@ fn edit_all<E: Editor, R: Rig, S: Source>(alloc: Global, rig: &mut R, input: &mu
 
 /// Opens the files and does one command.
 fn one_alone<E: Editor, R: Rig>(alloc: Global, rig: &mut R, command: &Command) -> Ended
-    ensures moments { (said : List ℕ) (s : E.model.Document) → Opening E.model (R.state rig.old) said s →
-        OnceDurable R.Rig rig.old rig.new (OpensToPrefix E.model s (command_of command.now ∷ []) [] said) (end_device result) }
+    ensures headline { (said : List ℕ) (s : E.model.Document) → Opening E.model (R.state rig.old) said s →
+        AtEveryMoment R.Rig rig.old rig.new E.model s (command_of command.now ∷ []) [] said (IsFile (end_device result)) (EndsOpening result) }
+    ensures alike { (said : List ℕ) (s : E.model.Document) → Opening E.model (R.state rig.old) said s → OnceAlike R.Rig rig.old rig.new E.model (end_device result) }
     ensures ends { (said : List ℕ) (s : E.model.Document) → Opening E.model (R.state rig.old) said s → OneEnds E.model (R.state rig.new) s (command_of command.now) said result }
     ensures void { result ≡ Ended.Done → ForSome (seen_of (R.state rig.new) File.Journal) E.model.void }
     ensures refused { result ≡ Ended.Refused → RefusedSo E.model (R.state rig.old) (R.state rig.new) }
@@ -112,7 +119,7 @@ fn one_alone<E: Editor, R: Rig>(alloc: Global, rig: &mut R, command: &Command) -
     ensures refuses { IsUnrefused E.model (R.state rig.old) ⊎ (EndsUnopened result × RefusedEnds E.model (R.state rig.old) (R.state rig.new) result) }
     // Where the command changes nothing, both files are left alone from the opening to the reply.
     ensures reads { (said : List ℕ) (s : E.model.Document) → Opening E.model (R.state rig.old) said s → E.model.still s (command_of command.now) →
-        OpeningEnds (R.state rig.new) said result ⊎ (OnlyReads R.Rig rig.old rig.new E.model said (E.model.reply s (command_of command.now)) s (E.model.after s (command_of command.now)) × (result ≢ Ended.Stopped Stop.Image)) }
+        OpeningEnds E.model (R.state rig.new) s said result ⊎ (OnlyReads R.Rig rig.old rig.new E.model said (E.model.reply s (command_of command.now)) s (E.model.after s (command_of command.now)) × (result ≢ Ended.Stopped Stop.Image)) }
     ensures alone { EndsAlone result }
     ensures goes_on { GoesOn (R.state rig.old) (R.state rig.new) }
     ensures cause { Faults (end_device result) (R.state rig.old) (R.state rig.new) }
@@ -133,9 +140,16 @@ fn one_alone<E: Editor, R: Rig>(alloc: Global, rig: &mut R, command: &Command) -
 /// and the prefix has every command whose reply had been said. Nothing is said but those replies, one after another, a
 /// front of the next, and behind all of them the text of a script's fault.
 pub fn edit<E: Editor, R: Rig, S: Source>(alloc: Global, rig: &mut R, input: &mut S) -> Ended
-    // Once opening has made durable what it found, each crash leaves a state that a prefix of the commands gives.
+    // Once opening has made durable what it found, each crash leaves a state that a prefix of the commands gives, and from the
+    // return of opening on an image that, read without its journal, waits for it or shows that state or the one before.
+    ensures headline { (cs : List Cmd) (end : End) (said : List ℕ) (s : E.model.Document) → Begins E.model (S.input input.old).left (R.state rig.old) cs end said s →
+        AtEveryMoment R.Rig rig.old rig.new E.model s cs (last_text end) said (IsFile (end_device result)) (EndsOpening result) }
+    // In particular, of each pair alone.
     ensures moments { (cs : List Cmd) (end : End) (said : List ℕ) (s : E.model.Document) → Begins E.model (S.input input.old).left (R.state rig.old) cs end said s →
         OnceDurable R.Rig rig.old rig.new (OpensToPrefix E.model s cs (last_text end) said) (end_device result) }
+    // Any two pairs that a crash leaves within one call have the same bytes in each item that both need.
+    ensures alike { (cs : List Cmd) (end : End) (said : List ℕ) (s : E.model.Document) → Begins E.model (S.input input.old).left (R.state rig.old) cs end said s →
+        OnceAlike R.Rig rig.old rig.new E.model (end_device result) }
     // What stands at the end, what was said, and what was taken of the input.
     ensures ends { (cs : List Cmd) (end : End) (said : List ℕ) (s : E.model.Document) → (h : Begins E.model (S.input input.old).left (R.state rig.old) cs end said s) →
         EndsSo E.model (R.state rig.new) (S.input input.new).left s cs end said h.input result }
@@ -161,8 +175,11 @@ pub fn edit<E: Editor, R: Rig, S: Source>(alloc: Global, rig: &mut R, input: &mu
 
 /// Opens the files, does one command, says its whole reply, and seals the journal.
 pub fn one<E: Editor, R: Rig>(alloc: Global, rig: &mut R, command: &Command) -> Ended
+    ensures headline { (said : List ℕ) (s : E.model.Document) → Opening E.model (R.state rig.old) said s →
+        AtEveryMoment R.Rig rig.old rig.new E.model s (command_of command.now ∷ []) [] said (IsFile (end_device result)) (EndsOpening result) }
     ensures moments { (said : List ℕ) (s : E.model.Document) → Opening E.model (R.state rig.old) said s →
         OnceDurable R.Rig rig.old rig.new (OpensToPrefix E.model s (command_of command.now ∷ []) [] said) (end_device result) }
+    ensures alike { (said : List ℕ) (s : E.model.Document) → Opening E.model (R.state rig.old) said s → OnceAlike R.Rig rig.old rig.new E.model (end_device result) }
     ensures ends { (said : List ℕ) (s : E.model.Document) → Opening E.model (R.state rig.old) said s → OneEnds E.model (R.state rig.new) s (command_of command.now) said result }
     ensures void { result ≡ Ended.Done → ForSome (seen_of (R.state rig.new) File.Journal) E.model.void }
     ensures refused { result ≡ Ended.Refused → RefusedSo E.model (R.state rig.old) (R.state rig.new) }
@@ -173,7 +190,7 @@ pub fn one<E: Editor, R: Rig>(alloc: Global, rig: &mut R, command: &Command) -> 
     ensures alone { EndsAlone result }
     // Where the command changes nothing, both files are left alone from the opening to the reply.
     ensures reads { (said : List ℕ) (s : E.model.Document) → Opening E.model (R.state rig.old) said s → E.model.still s (command_of command.now) →
-        OpeningEnds (R.state rig.new) said result ⊎ (OnlyReads R.Rig rig.old rig.new E.model said (E.model.reply s (command_of command.now)) s (E.model.after s (command_of command.now)) × (result ≢ Ended.Stopped Stop.Image)) }
+        OpeningEnds E.model (R.state rig.new) s said result ⊎ (OnlyReads R.Rig rig.old rig.new E.model said (E.model.reply s (command_of command.now)) s (E.model.after s (command_of command.now)) × (result ≢ Ended.Stopped Stop.Image)) }
     ensures complete { (said : List ℕ) (s : E.model.Document) → Opening E.model (R.state rig.old) said s → Quiet (R.state rig.old) (R.state rig.new) 0 0 → Answers Ended.Done result }
     ensures refuses { (all : Devices) (text : List ℕ) → devices (R.state rig.old) ≡ Option.Some all → E.model.refuses all.image.seen all.journal.seen text →
         Quiet (R.state rig.old) (R.state rig.new) 0 0 → Answers Ended.Refused result }

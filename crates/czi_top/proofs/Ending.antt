@@ -7,8 +7,8 @@ use Rattle.czi_session.specs.declared.stop.Ended.{Ended}
 use Rattle.czi_session.specs.declared.stop.Ended.TheVariants.{Done, Refused, Stopped}
 use Rattle.czi_session.specs.declared.stop.Stop.TheVariants.{Script, Image, Journal, Output, Input, Memory, TooLong}
 use Rattle.czi_session.specs.Ends.{Answers, Quiet, SaysRefusal}
-use Rattle.czi_session.specs.Stops.{end_device}
-use Rattle.czi_top.specs.Run.{SaysLine, SaysUsage, code_of, status_device}
+use Rattle.czi_session.specs.Stops.{EndsOpening, end_device}
+use Rattle.czi_top.specs.Run.{MayBeUnopened, SaysLine, SaysUsage, code_of, status_device}
 
 -- no fault came, also none of an input that isn't read
 pub quiet_alone : {old new : State} {before now : ℕ} → Quiet old new before now → Quiet old new 0 0
@@ -32,6 +32,18 @@ device_of_code (Stopped TooLong) = refl
 
 pub told_device : (ended : Ended) (status : ℕ) → status ≡ code_of ended → end_device ended ≡ status_device status
 told_device ended status is = device_of_code ended ∙ ap (λ (n : ℕ). status_device n) (sym is)
+
+-- and that the files didn't open
+pub opening_code : (ended : Ended) (status : ℕ) → status ≡ code_of ended → EndsOpening ended → MayBeUnopened status
+opening_code Done status is ends = absurd ends
+opening_code Refused status is ends = absurd ends
+opening_code (Stopped (Script number kind)) status is ends = absurd ends
+opening_code (Stopped Image) status is ends = inl is
+opening_code (Stopped Journal) status is ends = inr (inl is)
+opening_code (Stopped Output) status is ends = absurd ends
+opening_code (Stopped Input) status is ends = absurd ends
+opening_code (Stopped Memory) status is ends = inr (inr is)
+opening_code (Stopped TooLong) status is ends = absurd ends
 
 -- the usage line has nothing to do with the input
 pub usage_with : (status : ℕ) (old new : State) (count : ℕ) → SaysUsage old new status → Faults (status_device status) old new → FaultsWith (status_device status) old new count count

@@ -100,9 +100,13 @@ status_device status =
     else if status == 7 then Some input
     else None
 
+-- the run may have ended so while it opened the files: at a fault of a file, or for want of memory
+abbrev pub MayBeUnopened : ℕ → Type 0
+MayBeUnopened status = (status ≡ 4) ⊎ (status ≡ 5) ⊎ (status ≡ 8)
+
 -- `list` and `info` open the files, and then leave them alone until the reply is said; or the files didn't open.
 abbrev pub LooksOnly : {D : Type 0} → Ghosts D → D → D → Step → List ℕ → Begun → Ended → Type 0
-LooksOnly rig old new c said b ended = OpeningEnds (rig.state new) said ended
+LooksOnly rig old new c said b ended = OpeningEnds the_machine (rig.state new) b said ended
     ⊎ (OnlyReads rig old new the_machine said (the_machine.reply b c) b (the_machine.after b c) × (ended ≢ Stopped Image))
 
 abbrev pub Looks : {D : Type 0} → Ghosts D → D → D → Command → List ℕ → Begun → Ended → Type 0

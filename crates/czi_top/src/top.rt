@@ -9,14 +9,14 @@ ghost use Rattle.czi_rig.specs.Faults.{Faults, FaultsWith};
 ghost use Rattle.czi_rig.specs.Passes.{GoesOn};
 ghost use Rattle.czi_rig.specs.Moments.{devices, Throughout, LeavesSaying};
 ghost use Rattle.czi_script.specs.Script.{Command as Step, End};
-ghost use Rattle.czi_session.specs.Course.{KeepsRefused, OnceDurable, Opening, OpensToPrefix};
+ghost use Rattle.czi_session.specs.Course.{AtEveryMoment, KeepsRefused, OnceAlike, Opening};
 ghost use Rattle.czi_session.specs.Ends.{Answers, Quiet, RefusedEnds, RefusedSo};
-ghost use Rattle.czi_session.specs.Stops.{end_device};
+ghost use Rattle.czi_session.specs.Stops.{EndsOpening, IsFile, end_device};
 ghost use Rattle.czi_session.specs.Text.{last_text};
 ghost use Rattle.czi_editor.specs.Machine.{Begun, the_machine};
 ghost use Rattle.czi_top.specs.Words.{command_of};
 ghost use Rattle.czi_top.specs.View.{command_view};
-ghost use Rattle.czi_top.specs.Run.{Asks, EndsAt, EndsWell, EndsWith, IsAlone, Looks, LooksWith, RefusedWith, SaysLine, SaysUsage, TakesFor, Took, code_of, status_device, usage};
+ghost use Rattle.czi_top.specs.Run.{Asks, EndsAt, EndsWell, EndsWith, IsAlone, Looks, LooksWith, MayBeUnopened, RefusedWith, SaysLine, SaysUsage, TakesFor, Took, code_of, status_device, usage};
 
 use crate::words::{Command, command_of};
 use czi_editor::ImageEditor;
@@ -44,7 +44,9 @@ fn say_usage<R: Rig>(rig: &mut R) -> u8
 /// Runs the script that a command stands for.
 fn obey<R: Rig, S: Source>(alloc: Global, command: Command, rig: &mut R, input: &mut S) -> Ended
     ensures headline { (cs : List Step) (end : End) (said : List ℕ) (b : Begun) → Asks (command_view command) (S.input input.old).left cs end → Opening the_machine (R.state rig.old) said b →
-        OnceDurable R.Rig rig.old rig.new (OpensToPrefix the_machine b cs (last_text end) said) (end_device result) }
+        AtEveryMoment R.Rig rig.old rig.new the_machine b cs (last_text end) said (IsFile (end_device result)) (EndsOpening result) }
+    ensures alike { (cs : List Step) (end : End) (said : List ℕ) (b : Begun) → Asks (command_view command) (S.input input.old).left cs end → Opening the_machine (R.state rig.old) said b →
+        OnceAlike R.Rig rig.old rig.new the_machine (end_device result) }
     ensures ends { (said : List ℕ) (b : Begun) → Opening the_machine (R.state rig.old) said b → EndsAt (command_view command) (R.state rig.new) (S.input input.old).left (S.input input.new).left b said result }
     ensures void { result ≡ Ended.Done → ForSome (seen_of (R.state rig.new) File.Journal) (λ journal. slot_of journal ≡ Void) }
     ensures refused { result ≡ Ended.Refused → RefusedSo the_machine (R.state rig.old) (R.state rig.new) }
@@ -99,21 +101,32 @@ pub fn run<R: Rig, S: Source>(alloc: Global, words: &[String], rig: &mut R, inpu
         × ((S.input input.new).left ≡ (S.input input.old).left) × ForSome (devices (R.state rig.old)) (λ all. Throughout R.Rig rig.old rig.new (LeavesSaying all usage)) }
     ensures command { ForSome (command_of (map (λ s. string_bytes s) words.now)) (λ _. result ≢ 1) }
 
-    // At every moment, whatever a crash then leaves on image and journal opens again to the state that some prefix of the
-    // commands gives, the prefix holding every command whose reply had been said; what was said are those replies, a front of
-    // the next text, and nothing else; and each item of that state has the bytes that it had at the start. (Until opening has
-    // made both files durable, a crash leaves nothing that it couldn't have left at the start. Only where a file fails before,
-    // with 4 or 5, that is all.)
+    // At every moment of `run`, whatever a crash then leaves on image and journal opens again to the state that some prefix of
+    // the commands gives, the prefix holding every command whose reply had been said; what was said are those replies, a front
+    // of the next text, and nothing else; and each item of that state has the bytes that it had at the start. From the return
+    // of opening on, the image alone, read without its journal, waits for it or shows the document of that state, or of the one
+    // before. (Until opening has made both files durable, a crash leaves nothing that it couldn't have left at the start. Only
+    // where a file fails before, with 4 or 5, that is all. Where the files don't open, with 4, 5 or 8, what is left from then on
+    // opens to the state at the start, with nothing said.)
     ensures headline { ForSome (command_of (map (λ s. string_bytes s) words.now)) (λ command. (cs : List Step) (end : End) (said : List ℕ) (b : Begun) →
         Asks command (S.input input.old).left cs end → Opening the_machine (R.state rig.old) said b →
-        OnceDurable R.Rig rig.old rig.new (OpensToPrefix the_machine b cs (last_text end) said) (status_device result)) }
-    // What stands and was said at the end, by status.
+        AtEveryMoment R.Rig rig.old rig.new the_machine b cs (last_text end) said (IsFile (status_device result)) (MayBeUnopened result)) }
+    // Any two pairs that a crash at one moment leaves have the same bytes in each item that both need, those that the run brings
+    // included: so it is of any two of one span of time, and from the moment at which the files are durable on the run falls into
+    // spans that begin and end between two calls on the device.
+    ensures alike { ForSome (command_of (map (λ s. string_bytes s) words.now)) (λ command. (cs : List Step) (end : End) (said : List ℕ) (b : Begun) →
+        Asks command (S.input input.old).left cs end → Opening the_machine (R.state rig.old) said b → OnceAlike R.Rig rig.old rig.new the_machine (status_device result)) }
+    // What stands and was said at the end, by status. The journal is sealed at 0 alone. At 3, 6, 7, 8 and 9 one that counted at
+    // the start, or was armed by an edit, still counts, and any other says what it said; so it is where the files didn't open. At
+    // 5 from the sealing it says what it said, or is void. At 0, 3, 6, 7, 9, and 8 once the files were opened, whatever a crash
+    // then leaves stands for the image as it is read.
     ensures ends { ForSome (command_of (map (λ s. string_bytes s) words.now)) (λ command.
         EndsWith command (R.state rig.old) (R.state rig.new) (S.input input.old).left (S.input input.new).left result) }
     ensures void { result ≡ 0 → ForSome (seen_of (R.state rig.new) File.Journal) (λ journal. slot_of journal ≡ Void) }
     ensures takes { ForSome (command_of (map (λ s. string_bytes s) words.now)) (λ command. Took command (S.input input.old).left (S.input input.new).left result) }
 
-    // A refusal is told exactly where there is one, but for a fault or want of memory.
+    // A refusal is told exactly where there is one, but for a fault or want of memory. Both files are then as they were, but that
+    // the image may be the recovered one.
     ensures refused { result ≡ 2 → RefusedSo the_machine (R.state rig.old) (R.state rig.new) }
     ensures refuses { ForSome (command_of (map (λ s. string_bytes s) words.now)) (λ _. (text : List ℕ) → RefusedWith (R.state rig.old) text →
         Quiet (R.state rig.old) (R.state rig.new) (S.input input.old).faults (S.input input.new).faults → (result ≡ 2) ⊎ (result ≡ 8)) }

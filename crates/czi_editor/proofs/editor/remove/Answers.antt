@@ -7,10 +7,11 @@ use Rattle.czi_machine.specs.Machine.{after_edit}
 use Rattle.czi_rig.specs.declared.file.File.TheVariants.{Image}
 use Rattle.czi_rig.specs.Faults.{fault_at}
 use Rattle.czi_rig.proofs.Known.{known_seen}
+use Rattle.czi_rig.proofs.Runs.{weaker}
 use Rattle.czi_session.specs.Stops.{editor_device}
 use Rattle.czi_engine.specs.Editing.{refusal_of}
-use Rattle.czi_editor.specs.Replies.{no_line, ok_line}
-use Rattle.czi_editor.proofs.Editing.{accepted_stands, if_some, no_device, no_is, ok_is, refused_ready, refused_stands, same_all, told_no_device}
+use Rattle.czi_report.specs.Replies.{no_line, ok_line}
+use Rattle.czi_editor.proofs.Editing.{accepted_stands, if_some, no_device, no_is, ok_is, refused_ready, refused_stands, same_all, sides, told_no_device, unasked_alike}
 use Rattle.czi_editor.proofs.editor.remove.Goals as goal
 
 pub returns-in-Ok-push_ok-clause-replied : goal.returns-in-Ok-push_ok-clause-replied
@@ -18,14 +19,14 @@ returns-in-Ok-push_ok-clause-replied g c said b h =
     let dims = dims_of c.args.dims.now in
     let n = c.in-Ok-remove.number in
     let a = c.in-Ok-remove.ensures.accepted h.now.image.seen (known_seen (g.R.Rig.state c.args.rig.now) Image h.now h.known) b.start h.stands.live b.state h.stands.has in
-    c.in-Ok-push_ok.ensures.items ∙ (ap (λ (z : List ℕ). z ++ ok_line n) c.in-Ok.ensures.items ∙ ap (λ (z : List ℕ). c.args.reply.now.items ++ z) (ok_is b.state a.state dims n a.goes a.numbered))
+    c.in-Ok-push_ok.ensures.ok ∙ (ap (λ (z : List ℕ). z ++ ok_line n) c.in-Ok.ensures.items ∙ ap (λ (z : List ℕ). c.args.reply.now.items ++ z) (ok_is b.state a.state dims n a.goes a.numbered))
 
 pub returns-in-Ok-push_ok-clause-stands : goal.returns-in-Ok-push_ok-clause-stands
 returns-in-Ok-push_ok-clause-stands g c said b h =
     let old = g.R.Rig.state c.args.rig.now in
     let a = c.in-Ok-remove.ensures.accepted h.now.image.seen (known_seen old Image h.now h.known) b.start h.stands.live b.state h.stands.has in
     accepted_stands c.args.engine.now c.remove.new.self old (g.R.Rig.state c.remove.new.rig) said b (dims_of c.args.dims.now) h c.in-Ok-remove.number a
-    c.in-Ok-remove.ensures.stands c.in-Ok-remove.ensures.goes_on c.in-Ok-remove.ensures.said
+    c.in-Ok-remove.ensures.stands c.in-Ok-remove.ensures.armed c.in-Ok-remove.ensures.goes_on c.in-Ok-remove.ensures.said
 
 pub returns-in-Err-clause-replied : goal.returns-in-Err-clause-replied
 returns-in-Err-clause-replied g c = on_ok_weaker c.push_no.result (λ r said b h.
@@ -65,3 +66,14 @@ returns-in-Err-clause-starved g c = λ memory. (c.in-Err.ensures.quiet (ap is_so
 
 pub returns-in-Err-clause-cause : goal.returns-in-Err-clause-cause
 returns-in-Err-clause-cause g c = rw c.push_no.ensures.device c.in-Err.ensures.cause
+
+pub returns-in-Ok-push_ok-clause-moments : goal.returns-in-Ok-push_ok-clause-moments
+returns-in-Ok-push_ok-clause-moments g c said b h =
+    weaker g.R.Rig (sides b (dims_of c.args.dims.now) h.now.said said h.said_is) (c.remove.ensures.moments h.now h.known b.start h.stands.live b.state h.stands.has)
+
+pub returns-in-Err-clause-moments : goal.returns-in-Err-clause-moments
+returns-in-Err-clause-moments g c said b h =
+    weaker g.R.Rig (sides b (dims_of c.args.dims.now) h.now.said said h.said_is) (c.remove.ensures.moments h.now h.known b.start h.stands.live b.state h.stands.has)
+
+pub returns-in_default-clause-alike : goal.returns-in_default-clause-alike
+returns-in_default-clause-alike g c said b h = unasked_alike g.R.Rig g.met.R.Rig.only_now c.args.engine.now c.args.rig.now said b h

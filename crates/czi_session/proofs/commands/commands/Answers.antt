@@ -3,7 +3,9 @@ use Rattle.std.proofs.lemmas.Result.{err_from_is_err_and}
 use Rattle.czi_rig.proofs.Faults.{no_faults}
 use Rattle.czi_rig.proofs.Known.{goes_then}
 use Rattle.czi_rig.proofs.Runs.{started}
-use Rattle.czi_session.proofs.Midway.{midway_begins, midway_next, moments_next, reader_stops, step_stops, whole, taken_first, sound_first, taken_on, takes_any, takes_stopped}
+use Rattle.czi_rig.proofs.Spans.{one_span}
+use Rattle.czi_session.proofs.Midway.{alike_next, midway_begins, midway_next, moments_next, reader_stops, step_stops, whole, taken_first, sound_first, taken_on, takes_any, takes_stopped}
+use Rattle.czi_session.proofs.Spoken.{resting_alike}
 use Rattle.czi_session.proofs.Stops.{read_then, stopped_then, with_then}
 use Rattle.czi_session.proofs.commands.commands.Goals as goal
 
@@ -11,6 +13,8 @@ pub loop-command-init : goal.loop-command-init
 loop-command-init g c = record {
   midway = λ cs end said s h. midway_begins g.E.Editor.model (g.E.Editor.stands c.args.editor.now) c.in-Ok.reader (g.S.Source.input c.args.input.now).left (g.R.Rig.state c.args.rig.now) s cs end said c.in-Ok.ensures h;
   moments = λ cs end said s h last. started g.R.Rig c.args.rig.now _;
+  alike = λ cs end said s h. one_span g.R.Rig g.E.Editor.model.alike c.args.rig.now c.args.rig.now
+      (resting_alike g.R.Rig g.met.R.Rig.only_now g.E.Editor.model (g.E.Editor.stands c.args.editor.now) (g.met.E.Editor.rests_now c.args.editor.now) s said c.args.rig.now h.stands);
   taken = taken_first _ c.in-Ok.reader c.in-Ok.ensures;
   sound = sound_first c.in-Ok.reader c.in-Ok.ensures;
   none = ap (λ r. r.error) c.in-Ok.ensures;
@@ -33,6 +37,8 @@ loop-command-preserved-in_ok-step-in-Ok-Some g c =
           (g.E.Editor.stands c.step.new.editor) (g.R.Rig.state c.step.new.rig) count c.in_ok-step-in-Ok-Some.ensures.ok;
       moments = λ cs end said s h last. moments_next m on c.loop-command.reader left (g.R.Rig.state c.loop-command.rig) s cs end said h.input (inv.midway cs end said s h) c.in-Ok-Some.command c.next.new.self _ leaves
           g.met.E.Editor.says_something g.R.Rig c.args.rig.now c.loop-command.rig c.step.new.rig last (inv.moments cs end said s h last) c.step.ensures.moments;
+      alike = λ cs end said s h. alike_next m on c.loop-command.reader left (g.R.Rig.state c.loop-command.rig) s cs end said h.input (inv.midway cs end said s h) c.in-Ok-Some.command c.next.new.self _ leaves
+          g.R.Rig c.args.rig.now c.loop-command.rig c.step.new.rig (inv.alike cs end said s h) c.step.ensures.alike;
       taken = taken_on _ left _ c.loop-command.reader c.next.new.self inv.taken (c.in-Ok-Some.ensures.takes inv.none);
       sound = c.next.ensures.sound;
       none = c.in-Ok-Some.ensures.keeps;
@@ -55,6 +61,8 @@ loop-command-preserved g c =
           (g.E.Editor.stands c.step.new.editor) (g.R.Rig.state c.step.new.rig) count c.in_ok-step-in-Ok-Some.ensures.ok;
       moments = λ cs end said s h last. moments_next m on c.loop-command.reader left (g.R.Rig.state c.loop-command.rig) s cs end said h.input (inv.midway cs end said s h) c.in-Ok-Some.command c.next.new.self _ leaves
           g.met.E.Editor.says_something g.R.Rig c.args.rig.now c.loop-command.rig c.step.new.rig last (inv.moments cs end said s h last) c.step.ensures.moments;
+      alike = λ cs end said s h. alike_next m on c.loop-command.reader left (g.R.Rig.state c.loop-command.rig) s cs end said h.input (inv.midway cs end said s h) c.in-Ok-Some.command c.next.new.self _ leaves
+          g.R.Rig c.args.rig.now c.loop-command.rig c.step.new.rig (inv.alike cs end said s h) c.step.ensures.alike;
       taken = taken_on _ left _ c.loop-command.reader c.next.new.self inv.taken (c.in-Ok-Some.ensures.takes inv.none);
       sound = c.next.ensures.sound;
       none = c.in-Ok-Some.ensures.keeps;
@@ -73,6 +81,20 @@ returns-in_err-step-in-Ok-Some-clause-moments g c = λ cs end said s h last.
     let leaves = rw c.in-Ok-Some.field-0-is at (c.in-Ok-Some.ensures.leaves inv.none) in
     moments_next m on c.loop-command.reader left (g.R.Rig.state c.loop-command.rig) s cs end said h.input (inv.midway cs end said s h) c.in-Ok-Some.command c.next.new.self _ leaves
     g.met.E.Editor.says_something g.R.Rig c.args.rig.now c.loop-command.rig c.step.new.rig last (inv.moments cs end said s h last) c.step.ensures.moments
+
+pub returns-in_err-step-in-Ok-Some-clause-alike : goal.returns-in_err-step-in-Ok-Some-clause-alike
+returns-in_err-step-in-Ok-Some-clause-alike g c = λ cs end said s h.
+    let m = g.E.Editor.model in
+    let inv = c.loop-command.invariant in
+    let on = g.E.Editor.stands c.loop-command.editor in
+    let left = (g.S.Source.input c.loop-command.input).left in
+    let leaves = rw c.in-Ok-Some.field-0-is at (c.in-Ok-Some.ensures.leaves inv.none) in
+    alike_next m on c.loop-command.reader left (g.R.Rig.state c.loop-command.rig) s cs end said h.input (inv.midway cs end said s h) c.in-Ok-Some.command c.next.new.self _ leaves
+    g.R.Rig c.args.rig.now c.loop-command.rig c.step.new.rig (inv.alike cs end said s h) c.step.ensures.alike
+
+pub returns-in_default-clause-alike : goal.returns-in_default-clause-alike
+returns-in_default-clause-alike g c = λ cs end said s h. one_span g.R.Rig g.E.Editor.model.alike c.args.rig.now c.args.rig.now
+    (resting_alike g.R.Rig g.met.R.Rig.only_now g.E.Editor.model (g.E.Editor.stands c.args.editor.now) (g.met.E.Editor.rests_now c.args.editor.now) s said c.args.rig.now h.stands)
 
 pub returns-in_err-step-in-Ok-Some-clause-ends : goal.returns-in_err-step-in-Ok-Some-clause-ends
 returns-in_err-step-in-Ok-Some-clause-ends g c = λ cs end said s h.
@@ -127,7 +149,7 @@ returns-in-Err-clause-ends g c = λ cs end said s h.
     let on = g.E.Editor.stands c.loop-command.editor in
     let left = (g.S.Source.input c.loop-command.input).left in
     let e = c.in-Err.ensures in
-    rw c.stop_by.ensures (reader_stops m on c.loop-command.reader left (g.R.Rig.state c.loop-command.rig) s cs end said h.input (inv.midway cs end said s h) (g.met.E.Editor.opens_now c.loop-command.editor) inv.sound c.next.new.self
+    rw c.stop_by.ensures (reader_stops m on c.loop-command.reader left (g.R.Rig.state c.loop-command.rig) s cs end said h.input (inv.midway cs end said s h) (g.met.E.Editor.rests_now c.loop-command.editor) inv.sound c.next.new.self
     (g.S.Source.input c.next.new.input).left (e.counts inv.none).0 c.in-Err.error (e.finds inv.none) (e.leaves inv.none) (e.counts inv.none).1)
 
 pub returns-in-Err-clause-takes : goal.returns-in-Err-clause-takes

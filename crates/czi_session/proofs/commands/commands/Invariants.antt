@@ -1,11 +1,12 @@
 use Rattle.std.proofs.Common.{◌≡◌, ◌≤◌, ◌-◌, ◌^◌, ℕ, List, None}
 use Rattle.czi_script.specs.Script.{Command as Cmd, End}
 use Rattle.czi_script.specs.Reader.{IsReader}
-use Rattle.czi_session.specs.Course.{Starts, OpensToPrefix}
+use Rattle.czi_session.specs.Course.{ReadsToPrefix, Starts}
 use Rattle.czi_session.proofs.Midway.{Midway, TakenSoFar}
 use Rattle.czi_rig.specs.Faults.{FaultsWith}
 use Rattle.czi_rig.specs.Passes.{GoesOn}
 use Rattle.czi_rig.specs.Moments.{Throughout}
+use Rattle.czi_rig.specs.Spans.{InSpans}
 use Rattle.czi_session.proofs.commands.commands.Given as goal
 
 abbrev pub invariant-loop-command : goal.invariant-loop-command
@@ -13,7 +14,9 @@ invariant-loop-command g l = record {
   midway : (cs : List Cmd) (end : End) (said : List ℕ) (s : g.E.Editor.model.Document) → (h : Starts g.E.Editor.model (g.E.Editor.stands l.initial.editor) (g.S.Source.input l.initial.input).left (g.R.Rig.state l.initial.rig) cs end said s)
       → Midway g.E.Editor.model (g.E.Editor.stands l.editor) l.reader (g.S.Source.input l.input).left (g.R.Rig.state l.rig) s cs end said h.input;
   moments : (cs : List Cmd) (end : End) (said : List ℕ) (s : g.E.Editor.model.Document) → Starts g.E.Editor.model (g.E.Editor.stands l.initial.editor) (g.S.Source.input l.initial.input).left (g.R.Rig.state l.initial.rig) cs end said s
-      → (last : List ℕ) → Throughout g.R.Rig l.initial.rig l.rig (OpensToPrefix g.E.Editor.model s cs last said);
+      → (last : List ℕ) → Throughout g.R.Rig l.initial.rig l.rig (ReadsToPrefix g.E.Editor.model s cs last said);
+  alike : (cs : List Cmd) (end : End) (said : List ℕ) (s : g.E.Editor.model.Document) → Starts g.E.Editor.model (g.E.Editor.stands l.initial.editor) (g.S.Source.input l.initial.input).left (g.R.Rig.state l.initial.rig) cs end said s
+      → InSpans g.R.Rig l.initial.rig l.rig g.E.Editor.model.alike;
   taken : TakenSoFar (g.S.Source.input l.initial.input).left (g.S.Source.input l.input).left l.reader.taken;
   sound : IsReader l.reader;
   none : l.reader.error ≡ None;

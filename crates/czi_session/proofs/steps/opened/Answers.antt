@@ -2,7 +2,8 @@ use Rattle.std.proofs.Common.{inr, ap, ◌∙◌, List, ℕ, Some, ◌++◌, sub
 use Rattle.czi_rig.proofs.Known.{known_said}
 use Rattle.czi_session.specs.Course.{From, KeepsSaying}
 use Rattle.czi_session.specs.Ends.{SaysRefusal}
-use Rattle.czi_session.proofs.Kept.{kept_saying, kept_silent, still_told, surely}
+use Rattle.czi_session.proofs.Kept.{kept_saying, kept_silent, surely}
+use Rattle.czi_session.proofs.Told.{recovered_said, still_told}
 use Rattle.czi_session.proofs.Refusing.{opening_refused, opening_says}
 use Rattle.czi_session.proofs.Stops.{editor_alone}
 use Rattle.czi_session.proofs.steps.opened.Goals as goal
@@ -13,14 +14,15 @@ returns-in-Err-Refused-clause-opens g c = λ said s h. absurd (rw c.in-Err-Refus
 pub returns-in-Err-Refused-clause-refused : goal.returns-in-Err-Refused-clause-refused
 returns-in-Err-Refused-clause-refused g c = λ is all known. (
   c.in-Err-Refused.text.items,
-  rw c.in-Err-Refused.field-0-is at (c.in-Err-Refused.ensures.refused all known),
+  (rw c.in-Err-Refused.field-0-is at (c.in-Err-Refused.ensures.refused all known)).0,
   (rw is at (c.say_refusal.ensures.said all.said (c.open.ensures.said ∙ known_said (g.R.Rig.state c.args.rig.now) all known))) ∙ ap (λ (x : List ℕ). Some (all.said ++ x)) c.deref.ensures.value,
+  recovered_said g.E.Editor.model all (g.R.Rig.state c.open.new.rig) (g.R.Rig.state c.say_refusal.new.rig) c.say_refusal.ensures.files (rw c.in-Err-Refused.field-0-is at (c.in-Err-Refused.ensures.refused all known)).1,
 )
 
 pub returns-in-Err-Refused-clause-kept : goal.returns-in-Err-Refused-clause-kept
 returns-in-Err-Refused-clause-kept g c = λ all text known refused.
     let once = rw c.in-Err-Refused.field-0-is at (c.in-Err-Refused.ensures.kept all text known refused) in
-    let told = rw c.in-Err-Refused.field-0-is at (c.in-Err-Refused.ensures.refused all known) in
+    let told = (rw c.in-Err-Refused.field-0-is at (c.in-Err-Refused.ensures.refused all known)).0 in
     let same = c.deref.ensures.value ∙ g.met.E.Editor.refused_once all.image.seen all.journal.seen _ text told refused in
     let still = still_told (g.R.Rig.state c.args.rig.now) (g.R.Rig.state c.open.new.rig) all known c.open.ensures.goes_on c.open.ensures.said in
     inr (subst (λ (x : List ℕ). From g.R.Rig c.args.rig.now c.say_refusal.new.rig (KeepsSaying g.E.Editor.model all x)) same
@@ -28,15 +30,22 @@ returns-in-Err-Refused-clause-kept g c = λ all text known refused.
 
 pub returns-in-Err-Refused-clause-refusal : goal.returns-in-Err-Refused-clause-refusal
 returns-in-Err-Refused-clause-refusal g c = λ all text known refused.
-    let told = rw c.in-Err-Refused.field-0-is at (c.in-Err-Refused.ensures.refused all known) in
+    let told = (rw c.in-Err-Refused.field-0-is at (c.in-Err-Refused.ensures.refused all known)).0 in
     let same = c.deref.ensures.value ∙ g.met.E.Editor.refused_once all.image.seen all.journal.seen _ text told refused in
     subst (λ (x : List ℕ). SaysRefusal (g.R.Rig.state c.say_refusal.new.rig).said all.said x c.say_refusal.result) same
     (c.say_refusal.ensures.said all.said (c.open.ensures.said ∙ known_said (g.R.Rig.state c.args.rig.now) all known))
 
+pub returns-in-Err-Refused-clause-alike : goal.returns-in-Err-Refused-clause-alike
+returns-in-Err-Refused-clause-alike g c = λ said s h. absurd (rw c.in-Err-Refused.field-0-is at (c.in-Err-Refused.ensures.opens said s h).0)
+
 pub returns-in-Err-Stopped-clause-opens : goal.returns-in-Err-Stopped-clause-opens
 returns-in-Err-Stopped-clause-opens g c = λ said s h.
     let once = rw c.in-Err-Stopped.field-0-is at (c.in-Err-Stopped.ensures.opens said s h).1 in
-    rw c.stop_of.ensures (opening_says c.in-Err-Stopped.stop (g.R.Rig.state c.open.new.rig) said (c.open.ensures.said ∙ known_said (g.R.Rig.state c.args.rig.now) h.now h.known ∙ ap (λ (x : List ℕ). Some x) h.said_is), once)
+    let says = opening_says g.E.Editor.model c.in-Err-Stopped.stop (g.R.Rig.state c.args.rig.now) (g.R.Rig.state c.open.new.rig) said s h c.open.ensures.said c.open.ensures.journal (g.met.E.Editor.begins_unsealed _ _ s h.begins) in
+    rw c.stop_of.ensures (says.0, says.1, once)
+
+pub returns-in-Err-Stopped-clause-alike : goal.returns-in-Err-Stopped-clause-alike
+returns-in-Err-Stopped-clause-alike g c = λ said s h. rw c.stop_of.ensures (rw c.in-Err-Stopped.field-0-is at (c.in-Err-Stopped.ensures.alike said s h))
 
 pub returns-in-Err-Stopped-clause-kept : goal.returns-in-Err-Stopped-clause-kept
 returns-in-Err-Stopped-clause-kept g c = λ all text known refused.

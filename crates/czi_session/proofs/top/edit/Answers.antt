@@ -1,6 +1,8 @@
 use Rattle.std.proofs.Common.{inl, inr, ⊎_elim}
 use Rattle.czi_script.specs.Script.{Done}
-use Rattle.czi_session.proofs.Ending.{answers}
+use Rattle.czi_session.specs.Stops.{EndsOpening}
+use Rattle.czi_session.specs.Text.{last_text}
+use Rattle.czi_session.proofs.Ending.{answers, once_durable}
 use Rattle.czi_session.proofs.Refusing.{refused_answers}
 use Rattle.czi_session.proofs.top.edit.Goals as goal
 
@@ -19,3 +21,7 @@ returns-clause-refusal g c = λ all text is refuses. ⊎_elim (λ un. absurd (un
 
 pub returns-clause-untaken : goal.returns-clause-untaken
 returns-clause-untaken g c = λ all text is refuses. ⊎_elim (λ un. absurd (un all text is refuses)) (λ ends. ends.2) c.edit_all.ensures.refuses
+
+pub returns-clause-moments : goal.returns-clause-moments
+returns-clause-moments g c = λ cs end said s h.
+    once_durable g.R.Rig g.E.Editor.model g.met.E.Editor.says_something s cs (last_text end) said _ (EndsOpening c.edit_all.result) (c.edit_all.ensures.headline cs end said s h)

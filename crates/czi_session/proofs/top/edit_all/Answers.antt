@@ -1,23 +1,34 @@
-use Rattle.std.proofs.Common.{inl, inr, refl}
+use Rattle.std.proofs.Common.{inl, inr, ⊎_elim, refl}
 use Rattle.czi_session.specs.Text.{last_text}
-use Rattle.czi_session.proofs.Ending.{open_prefix, from_weaker, from_more, starts, unopened}
-use Rattle.czi_session.proofs.Kept.{once_weaker}
+use Rattle.czi_session.proofs.Ending.{alike_more, runs, starts, unopened}
 use Rattle.czi_session.proofs.Stops.{alone_with, unopened_alone, with_then}
 use Rattle.czi_session.proofs.top.edit_all.Goals as goal
 
-pub returns-in-Err-script-clause-moments : goal.returns-in-Err-script-clause-moments
-returns-in-Err-script-clause-moments g c = λ cs end said s h.
+pub returns-in-Err-script-clause-headline : goal.returns-in-Err-script-clause-headline
+returns-in-Err-script-clause-headline g c = λ cs end said s h.
     let m = g.E.Editor.model in
     let o = c.in-Ok.ensures.opens said s h.opening in
-    inr (from_more g.R.Rig (from_weaker g.R.Rig (open_prefix m g.met.E.Editor.says_something s cs (last_text end) said) o.0)
-    (c.script.ensures.moments cs end said s (starts m _ _ _ _ cs end said s h o.1)))
+    let on = g.E.Editor.stands c.in-Ok.editor in
+    inr (inr (runs g.R.Rig m g.met.R.Rig.only_now g.met.E.Editor.says_something on (g.met.E.Editor.rests_now c.in-Ok.editor) s cs (last_text end) said o.0 o.1 (c.script.ensures.moments cs end said s (starts m _ _ _ _ cs end said s h o.1))))
 
-pub returns-in-Ok-script-clause-moments : goal.returns-in-Ok-script-clause-moments
-returns-in-Ok-script-clause-moments g c = λ cs end said s h.
+pub returns-in-Err-script-clause-alike : goal.returns-in-Err-script-clause-alike
+returns-in-Err-script-clause-alike g c = λ cs end said s h.
     let m = g.E.Editor.model in
     let o = c.in-Ok.ensures.opens said s h.opening in
-    inr (from_more g.R.Rig (from_weaker g.R.Rig (open_prefix m g.met.E.Editor.says_something s cs (last_text end) said) o.0)
-    (c.script.ensures.moments cs end said s (starts m _ _ _ _ cs end said s h o.1)))
+    inr (alike_more g.R.Rig m c.args.rig.now c.opened.new.rig c.script.new.rig (c.in-Ok.ensures.alike said s h.opening) (c.script.ensures.alike cs end said s (starts m _ _ _ _ cs end said s h o.1)))
+
+pub returns-in-Ok-script-clause-headline : goal.returns-in-Ok-script-clause-headline
+returns-in-Ok-script-clause-headline g c = λ cs end said s h.
+    let m = g.E.Editor.model in
+    let o = c.in-Ok.ensures.opens said s h.opening in
+    let on = g.E.Editor.stands c.in-Ok.editor in
+    inr (inr (runs g.R.Rig m g.met.R.Rig.only_now g.met.E.Editor.says_something on (g.met.E.Editor.rests_now c.in-Ok.editor) s cs (last_text end) said o.0 o.1 (c.script.ensures.moments cs end said s (starts m _ _ _ _ cs end said s h o.1))))
+
+pub returns-in-Ok-script-clause-alike : goal.returns-in-Ok-script-clause-alike
+returns-in-Ok-script-clause-alike g c = λ cs end said s h.
+    let m = g.E.Editor.model in
+    let o = c.in-Ok.ensures.opens said s h.opening in
+    inr (alike_more g.R.Rig m c.args.rig.now c.opened.new.rig c.script.new.rig (c.in-Ok.ensures.alike said s h.opening) (c.script.ensures.alike cs end said s (starts m _ _ _ _ cs end said s h o.1)))
 
 pub returns-in-Ok-script-clause-ends : goal.returns-in-Ok-script-clause-ends
 returns-in-Ok-script-clause-ends g c = λ cs end said s h.
@@ -31,10 +42,13 @@ returns-in-Err-script-clause-ends g c = λ cs end said s h.
     let o = c.in-Ok.ensures.opens said s h.opening in
     inr (c.in-Err-script.ensures.ends cs end said s (starts m _ _ _ _ cs end said s h o.1))
 
-pub returns-in-Err-clause-moments : goal.returns-in-Err-clause-moments
-returns-in-Err-clause-moments g c = λ cs end said s h.
-    let m = g.E.Editor.model in
-    once_weaker g.R.Rig _ (open_prefix m g.met.E.Editor.says_something s cs (last_text end) said) (c.in-Err.ensures.opens said s h.opening).1
+pub returns-in-Err-clause-headline : goal.returns-in-Err-clause-headline
+returns-in-Err-clause-headline g c = λ cs end said s h.
+    let o = c.in-Err.ensures.opens said s h.opening in
+    ⊎_elim (λ nothing. inl nothing) (λ from. inr (inl (from, o.1))) o.2
+
+pub returns-in-Err-clause-alike : goal.returns-in-Err-clause-alike
+returns-in-Err-clause-alike g c = λ cs end said s h. c.in-Err.ensures.alike said s h.opening
 
 pub returns-in-Err-clause-ends : goal.returns-in-Err-clause-ends
 returns-in-Err-clause-ends g c = λ cs end said s h.

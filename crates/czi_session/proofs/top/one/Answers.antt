@@ -1,6 +1,7 @@
-use Rattle.std.proofs.Common.{inl, inr, ⊎_elim}
+use Rattle.std.proofs.Common.{inl, inr, ⊎_elim, ◌∷◌, []}
 use Rattle.czi_script.specs.View.{command_of}
-use Rattle.czi_session.proofs.Ending.{one_answers}
+use Rattle.czi_session.specs.Stops.{EndsOpening}
+use Rattle.czi_session.proofs.Ending.{once_durable, one_answers}
 use Rattle.czi_session.proofs.Refusing.{refused_answers}
 use Rattle.czi_session.proofs.top.one.Goals as goal
 
@@ -16,3 +17,7 @@ returns-clause-refuses g c = λ all text is refuses q.
 
 pub returns-clause-refusal : goal.returns-clause-refusal
 returns-clause-refusal g c = λ all text is refuses. ⊎_elim (λ un. absurd (un all text is refuses)) (λ ends. ends.1 all text is refuses) c.one_alone.ensures.refuses
+
+pub returns-clause-moments : goal.returns-clause-moments
+returns-clause-moments g c = λ said s h.
+    once_durable g.R.Rig g.E.Editor.model g.met.E.Editor.says_something s (command_of c.args.command.now ∷ []) [] said _ (EndsOpening c.one_alone.result) (c.one_alone.ensures.headline said s h)

@@ -1,22 +1,33 @@
-use Rattle.std.proofs.Common.{inl, inr, ◌∷◌, []}
+use Rattle.std.proofs.Common.{inl, inr, ⊎_elim, ◌∷◌, []}
 use Rattle.czi_script.specs.View.{command_of}
-use Rattle.czi_session.proofs.Ending.{open_prefix, from_weaker, from_more, one_unopened}
-use Rattle.czi_session.proofs.Kept.{once_weaker}
+use Rattle.czi_session.proofs.Ending.{alike_more, one_unopened, runs}
 use Rattle.czi_session.proofs.Stops.{stopped_no_image, unopened_alone}
 use Rattle.czi_rig.proofs.Faults.{faults_then}
 use Rattle.czi_session.proofs.top.one_alone.Goals as goal
 
-pub returns-in-Err-single-clause-moments : goal.returns-in-Err-single-clause-moments
-returns-in-Err-single-clause-moments g c = λ said s h.
+pub returns-in-Err-single-clause-headline : goal.returns-in-Err-single-clause-headline
+returns-in-Err-single-clause-headline g c = λ said s h.
     let m = g.E.Editor.model in
     let o = c.in-Ok.ensures.opens said s h in
-    inr (from_more g.R.Rig (from_weaker g.R.Rig (open_prefix m g.met.E.Editor.says_something s (command_of c.args.command.now ∷ []) [] said) o.0) (c.single.ensures.moments said s o.1))
+    let on = g.E.Editor.stands c.in-Ok.editor in
+    inr (inr (runs g.R.Rig m g.met.R.Rig.only_now g.met.E.Editor.says_something on (g.met.E.Editor.rests_now c.in-Ok.editor) s (command_of c.args.command.now ∷ []) [] said o.0 o.1 (c.single.ensures.moments said s o.1)))
 
-pub returns-in-Ok-single-clause-moments : goal.returns-in-Ok-single-clause-moments
-returns-in-Ok-single-clause-moments g c = λ said s h.
+pub returns-in-Err-single-clause-alike : goal.returns-in-Err-single-clause-alike
+returns-in-Err-single-clause-alike g c = λ said s h.
+    let o = c.in-Ok.ensures.opens said s h in
+    inr (alike_more g.R.Rig g.E.Editor.model c.args.rig.now c.opened.new.rig c.single.new.rig (c.in-Ok.ensures.alike said s h) (c.single.ensures.alike said s o.1))
+
+pub returns-in-Ok-single-clause-headline : goal.returns-in-Ok-single-clause-headline
+returns-in-Ok-single-clause-headline g c = λ said s h.
     let m = g.E.Editor.model in
     let o = c.in-Ok.ensures.opens said s h in
-    inr (from_more g.R.Rig (from_weaker g.R.Rig (open_prefix m g.met.E.Editor.says_something s (command_of c.args.command.now ∷ []) [] said) o.0) (c.single.ensures.moments said s o.1))
+    let on = g.E.Editor.stands c.in-Ok.editor in
+    inr (inr (runs g.R.Rig m g.met.R.Rig.only_now g.met.E.Editor.says_something on (g.met.E.Editor.rests_now c.in-Ok.editor) s (command_of c.args.command.now ∷ []) [] said o.0 o.1 (c.single.ensures.moments said s o.1)))
+
+pub returns-in-Ok-single-clause-alike : goal.returns-in-Ok-single-clause-alike
+returns-in-Ok-single-clause-alike g c = λ said s h.
+    let o = c.in-Ok.ensures.opens said s h in
+    inr (alike_more g.R.Rig g.E.Editor.model c.args.rig.now c.opened.new.rig c.single.new.rig (c.in-Ok.ensures.alike said s h) (c.single.ensures.alike said s o.1))
 
 pub returns-in-Ok-single-clause-ends : goal.returns-in-Ok-single-clause-ends
 returns-in-Ok-single-clause-ends g c = λ said s h. c.in-Ok-single.ensures.ends said s (c.in-Ok.ensures.opens said s h).1
@@ -24,10 +35,10 @@ returns-in-Ok-single-clause-ends g c = λ said s h. c.in-Ok-single.ensures.ends 
 pub returns-in-Err-single-clause-ends : goal.returns-in-Err-single-clause-ends
 returns-in-Err-single-clause-ends g c = λ said s h. inr (c.in-Err-single.ensures.ends said s (c.in-Ok.ensures.opens said s h).1)
 
-pub returns-in-Err-clause-moments : goal.returns-in-Err-clause-moments
-returns-in-Err-clause-moments g c = λ said s h.
-    let m = g.E.Editor.model in
-    once_weaker g.R.Rig _ (open_prefix m g.met.E.Editor.says_something s (command_of c.args.command.now ∷ []) [] said) (c.in-Err.ensures.opens said s h).1
+pub returns-in-Err-clause-headline : goal.returns-in-Err-clause-headline
+returns-in-Err-clause-headline g c = λ said s h.
+    let o = c.in-Err.ensures.opens said s h in
+    ⊎_elim (λ nothing. inl nothing) (λ from. inr (inl (from, o.1))) o.2
 
 pub returns-in-Err-clause-ends : goal.returns-in-Err-clause-ends
 returns-in-Err-clause-ends g c = λ said s h. one_unopened g.E.Editor.model (g.R.Rig.state c.opened.new.rig) s (command_of c.args.command.now) said c.in-Err.ended (c.in-Err.ensures.opens said s h).0

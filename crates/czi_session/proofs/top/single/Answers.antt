@@ -1,6 +1,7 @@
 use Rattle.std.proofs.Common.{inl}
 use Rattle.czi_rig.proofs.Faults.{faults_then}
 use Rattle.czi_rig.proofs.Runs.{joined, started, weaker}
+use Rattle.czi_rig.proofs.Spans.{one_span, spans_then}
 use Rattle.czi_script.specs.View.{command_of}
 use Rattle.czi_session.proofs.Ending.{one_within, one_sealed, one_ends}
 use Rattle.czi_session.proofs.Stops.{image_is_file, sealed_alone, sealed_no_image}
@@ -13,9 +14,14 @@ returns-in-Ok-clause-moments g c = λ said s h.
     joined g.R.Rig (weaker g.R.Rig (one_within m g.met.E.Editor.says_something s k said) (c.step.ensures.moments said s h))
     (weaker g.R.Rig (one_sealed m g.met.E.Editor.says_something s k said) (c.sealed.ensures.moments _ _ (c.in-Ok.ensures.ok said s h)))
 
+pub returns-in-Ok-clause-alike : goal.returns-in-Ok-clause-alike
+returns-in-Ok-clause-alike g c = λ said s h.
+    let m = g.E.Editor.model in
+    spans_then g.R.Rig m.alike c.args.rig.now c.step.new.rig c.sealed.new.rig (c.step.ensures.alike said s h) (one_span g.R.Rig m.alike c.step.new.rig c.sealed.new.rig (c.sealed.ensures.alike _ _ (c.in-Ok.ensures.ok said s h)))
+
 pub returns-in-Ok-clause-ends : goal.returns-in-Ok-clause-ends
 returns-in-Ok-clause-ends g c = λ said s h.
-    one_ends g.E.Editor.model (g.R.Rig.state c.sealed.new.rig) s (command_of c.args.command.now) said c.sealed.result (g.R.Rig.state c.step.new.rig) _ (c.in-Ok.ensures.ok said s h) c.sealed.ensures.said c.sealed.ensures.ok c.sealed.ensures.only
+    one_ends g.E.Editor.model (g.R.Rig.state c.sealed.new.rig) s (command_of c.args.command.now) said c.sealed.result (g.R.Rig.state c.step.new.rig) _ (c.in-Ok.ensures.ok said s h) c.sealed.ensures.said c.sealed.ensures.ok c.sealed.ensures.stopped c.sealed.ensures.only
 
 pub returns-in-Ok-clause-still : goal.returns-in-Ok-clause-still
 returns-in-Ok-clause-still g c = λ said s h still. (

@@ -49,3 +49,14 @@ returns-in-Edit-clause-looks g c = rw c.in-Edit.is (λ said b h. tt)
 
 pub returns-in-Edit-clause-untaken : goal.returns-in-Edit-clause-untaken
 returns-in-Edit-clause-untaken g c = λ text r. c.edit.ensures.untaken r.0 text r.1 r.2
+
+pub returns-in-List-clause-alike : goal.returns-in-List-clause-alike
+returns-in-List-clause-alike g c = λ cs end said b asks h. c.one.ensures.alike said b h
+
+pub returns-in-Info-clause-alike : goal.returns-in-Info-clause-alike
+returns-in-Info-clause-alike g c = λ cs end said b asks h. c.one-in-Info.ensures.alike said b h
+
+pub returns-in-Edit-clause-alike : goal.returns-in-Edit-clause-alike
+returns-in-Edit-clause-alike g c = λ cs end said b asks h.
+    let a = rw c.in-Edit.is at asks in
+    c.edit.ensures.alike cs end said b (record { input = a.0; told = a.1; reads = a.2; opening = h })

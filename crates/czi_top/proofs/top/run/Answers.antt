@@ -1,15 +1,15 @@
-use Rattle.std.proofs.Common.{◌≡◌, Option, subst, sym}
+use Rattle.std.proofs.Common.{◌≡◌, inl, inr, Option, subst, sym}
 use Rattle.czi_session.specs.declared.stop.Ended.TheVariants.{Done, Refused}
 use Rattle.czi_top.specs.Run.{EndsWell}
 use Rattle.czi_top.specs.View.{command_view}
 use Rattle.czi_top.specs.Words.{Command}
 use Rattle.czi_rig.specs.Faults.{Device, FaultsWith}
 use Rattle.czi_rig.proofs.Known.{known_said}
-use Rattle.czi_session.specs.Course.{KeepsRefused, OnceDurable, OpensToPrefix}
-use Rattle.czi_session.specs.Text.{last_text}
+use Rattle.czi_session.specs.Course.{KeepsRefused, OnceAlike}
+use Rattle.czi_session.specs.Stops.{IsFile}
 use Rattle.czi_editor.specs.Machine.{the_machine}
 use Rattle.czi_top.specs.Run.{Asks, Looks}
-use Rattle.czi_top.proofs.Ending.{answers_code, says_line, told_device, usage_with}
+use Rattle.czi_top.proofs.Ending.{answers_code, opening_code, says_line, told_device, usage_with}
 use Rattle.czi_top.proofs.top.run.Goals as goal
 
 pub returns-in-Some-clause-refuses : goal.returns-in-Some-clause-refuses
@@ -25,8 +25,17 @@ pub returns-in-Some-clause-headline : goal.returns-in-Some-clause-headline
 returns-in-Some-clause-headline g c = λ command is cs end said b asks h.
     let same : command ≡ command_view c.in-Some.command = cc (c.in-Some.ensures, is) in
     let asks_so = subst (λ (k : Command). Asks k (g.S.Source.input c.args.input.now).left cs end) same asks in
-    subst (λ (at : Option Device). OnceDurable g.R.Rig c.args.rig.now c.obey.new.rig (OpensToPrefix the_machine b cs (last_text end) said) at)
-    (told_device c.obey.result c.code_of.result c.code_of.ensures) (c.obey.ensures.headline cs end said b asks_so h)
+    elim (c.obey.ensures.headline cs end said b asks_so h) [
+      | inl none ↦ inl (none.0, subst (λ (at : Option Device). IsFile at) (told_device c.obey.result c.code_of.result c.code_of.ensures) none.1)
+      | inr (inl from) ↦ inr (inl (from.0, opening_code c.obey.result c.code_of.result c.code_of.ensures from.1))
+      | inr (inr runs) ↦ inr (inr runs)
+    ]
+
+pub returns-in-Some-clause-alike : goal.returns-in-Some-clause-alike
+returns-in-Some-clause-alike g c = λ command is cs end said b asks h.
+    let same : command ≡ command_view c.in-Some.command = cc (c.in-Some.ensures, is) in
+    let asks_so = subst (λ (k : Command). Asks k (g.S.Source.input c.args.input.now).left cs end) same asks in
+    subst (λ (at : Option Device). OnceAlike g.R.Rig c.args.rig.now c.obey.new.rig the_machine at) (told_device c.obey.result c.code_of.result c.code_of.ensures) (c.obey.ensures.alike cs end said b asks_so h)
 
 pub returns-in-Some-clause-refusal : goal.returns-in-Some-clause-refusal
 returns-in-Some-clause-refusal g c = λ command is text r. (

@@ -2,7 +2,7 @@ use Rattle.std.proofs.Common.{◌++◌, ℕ, List, ap, ◌∙◌}
 use Rattle.std.proofs.lemmas.Result.{on_ok_weaker}
 use Rattle.czi_report.specs.Text.{info_text}
 use Rattle.czi_report.proofs.Described.{details_state, lists_state}
-use Rattle.czi_editor.proofs.Editing.{both_ok}
+use Rattle.czi_editor.proofs.Editing.{both_ok, unasked_alike}
 use Rattle.czi_editor.proofs.editor.ImageEditorEditor.perform.Goals as goal
 
 pub returns-in-Remove-clause-moments : goal.returns-in-Remove-clause-moments
@@ -27,3 +27,9 @@ returns-in-Info-clause-ok g c = rw c.in-Info.is (on_ok_weaker c.push_info.result
           ∙ ap (λ (z : List ℕ). c.args.reply.now.items ++ z) (details_state h.now.image.seen h.stands.live b.state lies)),
       h,
     )) c.push_info.ensures.said)
+
+pub returns-in-List-clause-alike : goal.returns-in-List-clause-alike
+returns-in-List-clause-alike g c said b h = unasked_alike g.R.Rig g.met.R.Rig.only_now c.args.self.now.engine c.args.rig.now said b h
+
+pub returns-in-Info-clause-alike : goal.returns-in-Info-clause-alike
+returns-in-Info-clause-alike g c said b h = unasked_alike g.R.Rig g.met.R.Rig.only_now c.args.self.now.engine c.args.rig.now said b h

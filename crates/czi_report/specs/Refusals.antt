@@ -1,15 +1,9 @@
 -- Why an image and its journal are refused, as a line of text.
-use Rattle.std.specs.Prelude.{ℕ, ℤ, List, ◌++◌, codes}
+use Rattle.std.specs.Prelude.{ℕ, List, [], ◌++◌, codes, Option, Some, None}
 use Rattle.std.specs.Fmt.{decimal, signed_decimal}
-use Rattle.uuid.specs.Text.{hyphenated_text, lower}
-use Rattle.czi_format.specs.Bytes.{stored_order}
 use Rattle.czi_format.specs.Refusals.{Refusal, not_czi, multi_part, pending, bad_directory, too_many, bad_entry, bad_segment, bad_attachment, overlap}
 use Rattle.czi_opening.specs.Opens.{Cause, of_version, bad_at, too_short, of_another, unread}
-use Rattle.czi_report.specs.Text.{line_feed, span_text}
-
--- a line of a word and a place of the image
-abbrev pub place_line : List ℕ → ℤ → List ℕ
-place_line word place = word ++ (signed_decimal place ++ line_feed)
+use Rattle.czi_report.specs.Text.{guid_text, line_feed, number_line, numbers_line, place_line, span_text}
 
 -- a rule of reading that refuses, with its place and values
 unfoldable pub refusal_text : Refusal → List ℕ
@@ -23,14 +17,15 @@ refusal_text (bad_segment place) = place_line (codes "refused segment ") place
 refusal_text (bad_attachment place) = place_line (codes "refused attachment ") place
 refusal_text (overlap first second) = codes "refused overlap " ++ (span_text first ++ (codes " " ++ (span_text second ++ line_feed)))
 
--- a GUID in the stored order of its bytes, as text
-abbrev pub guid_text : List ℕ → List ℕ
-guid_text guid = hyphenated_text lower (stored_order guid)
-
 -- a cause: what the journal says, that the image isn't its own, or a rule of reading
 unfoldable pub cause_text : Cause → List ℕ
-cause_text (of_version version) = codes "refused version " ++ (decimal version ++ line_feed)
-cause_text (bad_at place) = codes "refused journal " ++ (decimal place ++ line_feed)
-cause_text (too_short have need) = codes "refused short " ++ (decimal have ++ (codes " " ++ (decimal need ++ line_feed)))
+cause_text (of_version version) = number_line (codes "refused version ") version
+cause_text (bad_at place) = number_line (codes "refused journal ") place
+cause_text (too_short have need) = numbers_line (codes "refused short ") have need
 cause_text (of_another journal image) = codes "refused foreign " ++ (guid_text journal ++ (codes " " ++ (guid_text image ++ line_feed)))
 cause_text (unread refusal) = refusal_text refusal
+
+-- the line of what an opening's error tells; a fault of a device and want of memory have none
+abbrev pub told_text : Option Cause → List ℕ
+told_text None = []
+told_text (Some cause) = cause_text cause
