@@ -3,7 +3,7 @@
 
 usage: faults.py
 
-The script removes two tiles of samples/tiles.czi. After each run the file is listed: it has to be the document after as many
+The script removes two tiles of crates/czi_tool/data/image.czi. After each run the file is listed: it has to be the document after as many
 removals as replies were said, or one more. Calls of the program's start (of the loader) are counted too.
 """
 import collections
@@ -15,7 +15,7 @@ import tempfile
 
 HERE = os.path.dirname(os.path.abspath(__file__))
 TOOL = os.environ.get("CZI_TOOL") or os.path.join(HERE, "..", "crates", "czi_tool", "out", "czi_tool")
-SAMPLE = os.path.join(HERE, "..", "samples", "tiles.czi")
+SAMPLE = os.path.join(HERE, "..", "crates", "czi_tool", "data", "image.czi")
 REMOVALS = [b"remove dims=X0:16,Y0:16,C0,S0\n", b"remove dims=X0:32:16,Y0:16:8,C0\n"]
 
 

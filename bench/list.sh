@@ -7,7 +7,7 @@ count=${1:-1048576}
 folder=$(mktemp -d)
 trap 'rm -rf "$folder"' EXIT
 tool=${CZI_TOOL:-crates/czi_tool/out/czi_tool}
-[ -x "$tool" ] || (cd crates/czi_tool && rt run -- ../../samples/tiles.czi list >/dev/null)
+[ -x "$tool" ] || (cd crates/czi_tool && rt run -- data/image.czi list >/dev/null)
 gcc -O2 -o "$folder/list" bench/list.c
 python3 bench/make_tiles.py "$folder/tiles.czi" "$count"
 cat "$folder/tiles.czi" >/dev/null

@@ -1,15 +1,11 @@
 //! `czi_commit`: the steps of a command.
 
 ghost use Rattle.std.specs.Prelude.{◌≡◌, ◌+◌, ◌^◌, ◌≤◌, false, length, take, drop, IfOk, IsTrue, OnOk};
-ghost use Rattle.std.specs.List.{AllByRecursion};
 ghost use Rattle.std.specs.Option.{ForSome};
 ghost use Rattle.czi_rig.specs.Disk.{Everywhere, IsAtRest};
 ghost use Rattle.czi_rig.specs.State.{known, seen_of};
-ghost use Rattle.czi_links.specs.Record.{EndWithin, encoded_len};
-ghost use Rattle.czi_region.specs.Pieces.{IsPiece};
 ghost use Rattle.czi_opening.specs.Answers.{IsJournal};
-ghost use Rattle.czi_commit.specs.Filled.{AreNear, LeaveGuid, last_end};
-ghost use Rattle.czi_commit.specs.Made.{writes_of};
+ghost use Rattle.czi_commit.specs.Made.{Fits, IsStaged, step_of};
 
 use crate::files::Part;
 use czi_commit::carry_out;
@@ -47,28 +43,21 @@ struct Planned {
     plan: EditPlan,
 }
 
-// A plan of one write at or behind the end of an image of this length, which the image then ends with, and one link of two
+// A plan of one write at or behind the end of this file, which the image then ends with, and one link of two
 // bytes at place 112.
 fn plan_of(
     alloc: Global,
-    image_len: u64,
+    file: &SlotHead,
     place: u64,
     bytes: &[u8],
     link: [u8; 2],
 ) -> Result<Planned, Fail>
-    requires header { 114 ≤ image_len }
-    requires behind { image_len ≤ place }
-    requires near { place ≤ image_len + 64 }
+    requires header { 114 ≤ file.now.length }
+    requires behind { file.now.length ≤ place }
+    requires near { place ≤ file.now.length + 64 }
     requires small { place + length bytes.now ≤ 2 ^ 20 }
-    ensures least { IfOk result (λ p. 112 ≤ p.plan.length) }
-    ensures greatest { IfOk result (λ p. p.plan.length ≤ 2 ^ 62) }
-    ensures pieces { IfOk result (λ p. AllByRecursion (λ w. IsPiece p.region w.1) p.plan.writes.items) }
-    ensures guid_stays { IfOk result (λ p. LeaveGuid (writes_of p.region p.plan)) }
-    ensures near { IfOk result (λ p. AreNear image_len (writes_of p.region p.plan)) }
-    ensures small { IfOk result (λ p. last_end image_len (writes_of p.region p.plan) ≤ 2 ^ 62) }
-    ensures long { IfOk result (λ p. p.plan.length ≤ last_end image_len (writes_of p.region p.plan)) }
-    ensures ends { IfOk result (λ p. EndWithin p.plan.length p.plan.links.links) }
-    ensures brief { IfOk result (λ p. encoded_len p.plan.links.links ≤ 262144) }
+    ensures staged { IfOk result (λ p. IsStaged p.region p.plan) }
+    ensures fits { IfOk result (λ p. Fits file.now.length (step_of file.now p.region p.plan)) }
 {
     let mut region = Region::new(alloc);
     region.ensure(bytes.len())?;
@@ -107,7 +96,7 @@ fn append<R: Rig>(
     ensures journal { OnOk result (ForSome (known (R.state rig.new) File.Journal) (Everywhere (IsJournal journal.new))) }
     ensures armed { OnOk result (IsTrue journal.new.armed) }
 {
-    let planned = plan_of(alloc, file.length, place, bytes, link)?;
+    let planned = plan_of(alloc, file, place, bytes, link)?;
     let mut buffer = vec![in alloc; 0u8; SLOT_LEN]?;
     match carry_out(
         rig,

@@ -1,12 +1,13 @@
 //! `czi_image`: what an index holds of an image, and after a subblock was taken out.
 
-ghost use Rattle.std.specs.Prelude.{◌≡◌, ◌≤◌, ◌^◌};
+ghost use Rattle.std.specs.Prelude.{◌≡◌, ◌≤◌, ◌^◌, IfOk};
+ghost use Rattle.czi_test_image.specs.Removal.{IsRemoval};
 
 use crate::documents::{Part, document, image_of, index_in, put};
-use czi_image::{DirItem, ImageFault, Index, read_index};
+use czi_image::{Act, Change, DirItem, DirectoryChange, ImageFault, Index, read_index};
 use czi_num::Span;
 use czi_rig::MemRig;
-use std::alloc::Global;
+use std::alloc::{AllocError, Global};
 use std::process::Abort;
 use std::test::Fail;
 
@@ -198,15 +199,39 @@ fn directory_at(at: u64) -> DirItem
     DirItem { span, walked: true }
 }
 
+// The change that takes a subblock out.
+fn removal(alloc: Global, i: usize, directory: DirectoryChange) -> Result<Change, AllocError>
+    ensures { IfOk result (IsRemoval i directory) }
+{
+    let mut change = Change::new(alloc);
+    change.directory = directory;
+    change.tiles.push(Act::Out(i))?;
+    Ok(change)
+}
+
 // The index without the subblock at a place: its directory stands behind the image, and nothing is free.
-fn removed_at_end(alloc: Global, mut index: Index, i: usize) -> Option<Index> {
+fn removed_at_end(alloc: Global, mut index: Index, i: usize) -> Result<Index, Fail> {
+    index.reserve(1, 0, 0)?;
     if i >= index.tiles.len() || index.length > 4096 {
-        return None;
+        return Err(Fail::new("no such subblock"));
     }
     let directory = directory_at(index.length);
     let length = index.length + 192;
-    index.remove_tile(i, directory, Vec::new(alloc), length, length);
-    Some(index)
+    let change = removal(alloc, i, DirectoryChange::New(directory))?;
+    index.apply(change, &[], length);
+    Ok(index)
+}
+
+// The same with the directory where it stood.
+fn removed_in_place(alloc: Global, mut index: Index, i: usize) -> Result<Index, Fail> {
+    index.reserve(1, 0, 0)?;
+    if i >= index.tiles.len() {
+        return Err(Fail::new("no such subblock"));
+    }
+    let length = index.length;
+    let change = removal(alloc, i, DirectoryChange::Patched)?;
+    index.apply(change, &[], length);
+    Ok(index)
 }
 
 // The index of the image with the two subblocks.
@@ -215,14 +240,20 @@ fn check_both(rt: &impl Abort, index: &Index) {
     check_extents(rt, &index.extents, &[(1472, 64)]);
 }
 
-// The index whose directory lies behind the image and has one subblock, at this place.
-fn check_other(rt: &impl Abort, index: &Index, other: u64) -> Result<(), Fail> {
-    assert!(rt; index.tiles.len() == 1);
+// The index of an image of this length has one subblock, at this place, and its directory lies here.
+fn check_other(
+    rt: &impl Abort,
+    index: &Index,
+    other: u64,
+    length: u64,
+    (at, len): (u32, u64),
+) -> Result<(), Fail> {
+    assert!(rt; index.tiles.len() == 1 && index.header.directory == i64::from(at));
     let tile = &index.tiles[0];
-    assert!(rt; tile.span.at == other && tile.span.len == 320 && index.header.directory == 1536);
-    assert!(rt; index.length == 1728 && index.walk_end == 1728 && index.unknown == 0);
+    assert!(rt; tile.span.at == other && tile.span.len == 320);
+    assert!(rt; index.length == length && index.walk_end == length && index.unknown == 0);
     assert!(rt; index.extents.is_empty());
-    check_directory(rt, index, 1536, 192)
+    check_directory(rt, index, u64::from(at), len)
 }
 
 #[test]
@@ -231,8 +262,11 @@ fn a_subblock_is_taken_out(rt: HostRuntime) -> Result<(), Fail> {
     for (i, other) in OTHERS.iter() {
         let index = index_in(rt.alloc(), &image)?;
         check_both(&rt, &index);
-        let index = removed_at_end(rt.alloc(), index, *i).ok_or("no such subblock")?;
-        check_other(&rt, &index, *other)?;
+        let index = removed_at_end(rt.alloc(), index, *i)?;
+        check_other(&rt, &index, *other, 1728, (1536, 192))?;
+        let index = index_in(rt.alloc(), &image)?;
+        let index = removed_in_place(rt.alloc(), index, *i)?;
+        check_other(&rt, &index, *other, 1536, (544, 288))?;
     }
     Ok(())
 }

@@ -11,7 +11,8 @@ use Rattle.czi_rig.specs.Moments.{Devices, Run, OnlyNow}
 use Rattle.czi_rig.proofs.Files.{left_settled}
 use Rattle.czi_rig.proofs.Known.{same_known, file_known, known_file, known_seen}
 use Rattle.czi_rig.proofs.Runs.{started, always}
-use Rattle.czi_session.specs.Course.{Opening, Stands, Open, From}
+use Rattle.czi_rig.proofs.Spans.{each_two, one_span}
+use Rattle.czi_session.specs.Course.{AlikeFrom, Opening, Stands, Open, From}
 use Rattle.czi_test_run.specs.Counting.{counting, Counts}
 
 abbrev pub No : Instant
@@ -29,6 +30,10 @@ module _ {D : Type 0} (rig : Ghosts D) (only : OnlyNow rig) (old new : D) (said 
     always = always rig (resting h.now) only r.known (started rig new (Open counting s said))
         (λ i j o l. (ap (λ (x : List ℕ). length x) (left_settled h.now.image.seen i l.image_is) ∙ h.begins, l.said_is ∙ h.said_is));
   }
+
+  -- any two pairs are of the same kind to a counter
+  pub opened_alike : AlikeFrom rig old new counting
+  opened_alike = record { then = opened.then; before = opened.before; spans = one_span rig counting.alike opened.then new (each_two rig counting.alike (λ i j o i' j' o' one two. tt) (record { throughout = opened.after; always = opened.always })) }
 
   pub stood : Stands counting Counts (rig.state new) said s
   stood = record { now = resting h.now; known = r.known; said_is = h.said_is; stands = record { rest = refl; count = h.begins } }

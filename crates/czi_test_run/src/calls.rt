@@ -8,8 +8,8 @@ use std::alloc::Global;
 use std::process::Abort;
 use std::test::Fail;
 
-// The number of the first such call.
-fn number_of(rig: &MemRig, call: Call) -> Result<u64, Fail> {
+/// The number of the first such call.
+pub(crate) fn number_of(rig: &MemRig, call: Call) -> Result<u64, Fail> {
     for number in 0..rig.calls() {
         if rig.call(number) == call {
             return Ok(number);
@@ -26,8 +26,8 @@ fn whole_run(rt: &impl Abort, alloc: Global) -> Result<MemRig, Fail> {
     Ok(rig)
 }
 
-// The write of the byte that commits the removal.
-const SELECTOR: Call = Call::Write(File::Journal, 1, 1);
+/// The write of the byte that commits the removal.
+pub(crate) const SELECTOR: Call = Call::Write(File::Journal, 1, 1);
 
 static PICKS: [Pick; 4] = [
     Pick::Old,
@@ -36,32 +36,35 @@ static PICKS: [Pick; 4] = [
     Pick::Fill(0x57, false),
 ];
 
-// What `list` says of what a crash in the call leaves.
+/// A command, and what it says of the document before a script and after it.
+pub(crate) type Told<'a> = (&'a str, &'a [u8], &'a [u8]);
+
+// What the command says of what a crash in the call leaves.
 fn check_crash(
     rt: &impl Abort,
     alloc: Global,
     rig: &MemRig,
     (number, pick): (u64, Pick),
-    said: &[u8],
+    (command, said): (&str, &[u8]),
 ) -> Result<(), Fail> {
     assert!(rt; number < rig.calls());
     let (image, journal) = rig.crash(number, pick)?;
-    check_said(rt, alloc, "list", (&image, &journal), (0, said))
+    check_said(rt, alloc, command, (&image, &journal), (0, said))
 }
 
-// The same for each pick, where the call with the number `selector` commits.
-fn check_crashes(
+/// The same for each pick, where the call with the number `selector` commits.
+pub(crate) fn check_crashes(
     rt: &impl Abort,
     alloc: Global,
     rig: &MemRig,
-    number: u64,
-    selector: u64,
+    (number, selector): (u64, u64),
+    (command, old, new): Told,
 ) -> Result<(), Fail> {
     let within = number <= selector.saturating_add(1);
     for pick in PICKS.iter() {
         let before = number < selector || (within && *pick != Pick::New);
-        let said = if before { TILE } else { NO_TILES };
-        check_crash(rt, alloc, rig, (number, *pick), said)?;
+        let said = if before { old } else { new };
+        check_crash(rt, alloc, rig, (number, *pick), (command, said))?;
     }
     Ok(())
 }
@@ -72,7 +75,13 @@ fn a_crash_in_any_call_leaves_the_document_before_or_after(rt: HostRuntime) -> R
     let rig = whole_run(&rt, alloc)?;
     let selector = number_of(&rig, SELECTOR)?;
     for number in 0..rig.calls() {
-        check_crashes(&rt, alloc, &rig, number, selector)?;
+        check_crashes(
+            &rt,
+            alloc,
+            &rig,
+            (number, selector),
+            ("list", TILE, NO_TILES),
+        )?;
     }
     Ok(())
 }
@@ -80,7 +89,7 @@ fn a_crash_in_any_call_leaves_the_document_before_or_after(rt: HostRuntime) -> R
 // A call in which the run crashes, and what `list` then answers without the journal.
 static ALONE: [(Call, u8, &[u8]); 3] = [
     (SELECTOR, 0, TILE),
-    (Call::Write(File::Image, 84, 8), 2, b"refused pending 1\n"),
+    (Call::Write(File::Image, 1048, 8), 2, b"refused pending 1\n"),
     (Call::Say, 0, NO_TILES),
 ];
 
@@ -108,12 +117,10 @@ fn the_image_alone_says_that_it_waits_for_its_journal(rt: HostRuntime) -> Result
 }
 
 // The call that fails, the status and what is said, and what `list` says then.
-static FAILED: [(Call, u8, &[u8], &[u8]); 7] = [
+static FAILED: [(Call, u8, &[u8], &[u8]); 6] = [
     (Call::Sync(File::Image), 4, b"", TILE),
     // The journal is armed.
     (Call::Write(File::Journal, 0, 1), 5, b"", TILE),
-    // The data of the new directory, the first write into the image.
-    (Call::Write(File::Image, 576, 128), 4, b"", TILE),
     (SELECTOR, 5, b"", NO_TILES),
     (Call::Write(File::Image, 544, 32), 4, b"", NO_TILES),
     (Call::Say, 6, b"ok ", NO_TILES),

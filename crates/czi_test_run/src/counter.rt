@@ -1,7 +1,7 @@
 //! An editor for tests.
 
 ghost use Rattle.std.specs.Prelude.{◌≡◌, ◌++◌, OnOk, ⊤};
-ghost use Rattle.czi_test_run.specs.Counting.{counting, Counts, ok_line, opens_counts, refused_once, says_ok};
+ghost use Rattle.czi_test_run.specs.Counting.{begins_counts, counting, Counts, ok_line, refused_once, rests_counts, says_ok};
 
 use czi_rig::{Failed, File, Rig, write_synced};
 use czi_script::Command;
@@ -31,7 +31,9 @@ impl Editor for Counter {
 
     ghost stays_ready = { λ editor old new ready same on. ready };
 
-    ghost opens_now = { λ editor image journal s. opens_counts image journal s };
+    ghost rests_now = { λ editor image journal s stands. rests_counts image journal s stands };
+
+    ghost begins_unsealed = { λ image journal s begins. begins_counts image journal s begins };
 
     ghost says_something = { λ s c. says_ok s c };
 
@@ -49,7 +51,6 @@ impl Editor for Counter {
 
     fn perform<R: Rig>(
         &mut self,
-        _alloc: Global,
         rig: &mut R,
         _command: &Command,
         reply: &mut Vec<u8>,

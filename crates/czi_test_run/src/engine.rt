@@ -5,7 +5,7 @@ ghost use Rattle.czi_rig.specs.MemRig.{state_in};
 ghost use Rattle.czi_engine.specs.Standing.{StandsOnRig};
 
 use crate::devices::check_files;
-use crate::images::{Part, file};
+use crate::images::{Part, file, put};
 use czi_doc::read_dims;
 use czi_engine::{EditError, Engine, ImageRefusal, OpenError};
 use czi_num::Span;
@@ -97,7 +97,7 @@ fn check_recovered(
         return Err(Fail::new("not opened"));
     };
     check_files(rt, rig, image, journal);
-    let Ok(()) = engine.reopen(alloc, rig) else {
+    let Ok(()) = engine.reopen(rig) else {
         return Err(Fail::new("not opened again"));
     };
     check_standing(rt, &engine, 704, 0);
@@ -161,9 +161,9 @@ fn check_down(
     rig: &mut MemRig,
 ) -> Result<(), Fail> {
     rig.fail_call(rig.calls())?;
-    let failed = engine.reopen(alloc, rig);
+    let failed = engine.reopen(rig);
     assert!(rt; failed == Err(OpenError::ImageDevice) && engine.down());
-    let again = engine.reopen(alloc, rig);
+    let again = engine.reopen(rig);
     assert!(rt; again.is_ok() && !engine.down());
     Ok(())
 }
@@ -206,22 +206,22 @@ fn check_removal(
     engine: &mut Engine,
     rig: &mut MemRig,
 ) -> Result<(), Fail>
-    requires stands { StandsOnRig (state_in rig.old) engine.old }
-    requires up { IsFalse engine.old.down }
+    requires stands { StandsOnRig (state_in rig.old) engine.old.state }
+    requires up { IsFalse engine.old.state.down }
 {
     let dims = read_dims(alloc, b"C0,X0:4,Y0:2").ok().ok_or("no dims")?;
-    let Ok(number) = engine.remove(alloc, rig, &dims) else {
+    let Ok(number) = engine.remove(rig, &dims) else {
         return Err(Fail::new("not removed"));
     };
     let calls = rig.calls();
-    let again = engine.remove(alloc, rig, &dims);
+    let again = engine.remove(rig, &dims);
     assert!(rt; number == 1 && again == Err(EditError::NoKey) && rig.calls() == calls);
     Ok(())
 }
 
 // What is free and what is held back once the subblock is removed.
 fn check_held(rt: &impl Abort, engine: &Engine) -> Result<(), Fail> {
-    let free = [Span { at: 1024, len: 256 }];
+    let free = [Span { at: 544, len: 160 }];
     let held = [Span { at: 704, len: 320 }];
     let runs = engine.map().runs()?;
     assert!(rt; engine.entries().is_empty() && runs.as_slice() == free.as_slice());
@@ -229,15 +229,39 @@ fn check_held(rt: &impl Abort, engine: &Engine) -> Result<(), Fail> {
     Ok(())
 }
 
-#[test]
-fn a_removal_holds_the_subblock_back(rt: HostRuntime) -> Result<(), Fail> {
-    let alloc = rt.alloc();
-    let mut rig = rig_of(alloc, 1280, &SUBBLOCK)?;
+// The directory lies where it lay, with so many bytes.
+fn check_directory(rt: &impl Abort, engine: &Engine, len: u64) -> Result<(), Fail> {
+    let directory = engine.index().directory.ok_or("no directory")?;
+    assert!(rt; directory.span.at == 1024 && directory.span.len == len);
+    Ok(())
+}
+
+// How long the image is, what is written over it, and how long the directory is: as long as its entry asks for, and longer.
+static REMOVALS: [(usize, Part, u64); 2] = [(1280, (1041, &[0]), 256), (2304, (1041, &[4]), 1280)];
+
+fn check_removed(
+    rt: &impl Abort,
+    alloc: Global,
+    (len, part, directory): (usize, Part, u64),
+) -> Result<(), Fail> {
+    let mut image = image_of(alloc, len, &SUBBLOCK)?;
+    put(&mut image, &[part]);
+    let mut rig = MemRig::new(alloc, &image, b"")?;
     let Ok(mut engine) = Engine::open(alloc, &mut rig) else {
         return Err(Fail::new("not opened"));
     };
     assert!(rt; engine.entries().len() == 1);
-    check_removal(&rt, alloc, &mut engine, &mut rig)?;
-    check_standing(&rt, &engine, 1280, 1);
-    check_held(&rt, &engine)
+    check_directory(rt, &engine, directory)?;
+    check_removal(rt, alloc, &mut engine, &mut rig)?;
+    check_standing(rt, &engine, len as u64, 1);
+    check_directory(rt, &engine, directory)?;
+    check_held(rt, &engine)
+}
+
+#[test]
+fn a_removal_holds_the_subblock_back(rt: HostRuntime) -> Result<(), Fail> {
+    for row in REMOVALS.iter() {
+        check_removed(&rt, rt.alloc(), *row)?;
+    }
+    Ok(())
 }

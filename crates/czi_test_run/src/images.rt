@@ -6,13 +6,18 @@ use std::alloc::{AllocError, Global};
 /// Bytes at a place.
 pub(crate) type Part = (usize, &'static [u8]);
 
+/// Writes a part over bytes, if it fits.
+pub(crate) fn put_at(bytes: &mut Vec<u8>, at: usize, part: &[u8]) {
+    let fits = part.len() <= bytes.len() && at <= bytes.len() - part.len();
+    if fits {
+        write_bytes(bytes, at, part);
+    }
+}
+
 /// Writes the parts that fit over bytes.
 pub(crate) fn put(bytes: &mut Vec<u8>, parts: &[Part]) {
     for (at, part) in parts {
-        let fits = part.len() <= bytes.len() && *at <= bytes.len() - part.len();
-        if fits {
-            write_bytes(bytes, *at, part);
-        }
+        put_at(bytes, *at, part);
     }
 }
 

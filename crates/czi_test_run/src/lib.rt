@@ -21,3 +21,5 @@ mod scripts;
 mod session;
 #[cfg(test)]
 mod top;
+#[cfg(test)]
+mod wide;

@@ -19,7 +19,7 @@ pub(crate) const REPLIES: &[u8] = b"ok 1\ntiles 0\nno key\n";
 // What `info` says once the tile is removed.
 const REMOVED: &[u8] = b"length 1280\n\
     guid 00112233-4455-6677-8899-aabbccddeeff\n\
-    directory 544 160\n\
+    directory 1024 256\n\
     tiles 0\n\
     attdir none\n\
     attachments 0\n\
@@ -145,7 +145,7 @@ static MISFITS: [Misfit; 6] = [
         b"refused foreign 00112233-4455-6677-8899-aabbccddeeff 00000000-0000-0000-0000-000000000000\n",
     ),
     (1280, NONE, (262_208, &[9]), 2, b"refused version 9\n"),
-    (1280, NONE, (262_236, &[4]), 2, b"refused journal 262348\n"),
+    (1280, NONE, (262_236, &[4]), 2, b"refused journal 262320\n"),
     (
         1280,
         NONE,
@@ -168,7 +168,7 @@ fn check_misfit(
 }
 
 // The journal counts after a script that breaks off. Slot B is selected, from 262208 on: its record is of version 1, and has
-// the GUID at 262212, the length 1280, at 262236 three links: of 8, 32 and 32 bytes.
+// the GUID at 262212, the length 1280, at 262236 three links: of 32, 8 and 4 bytes.
 #[test]
 fn a_journal_that_counts_refuses_what_does_not_fit(rt: HostRuntime) -> Result<(), Fail> {
     let alloc = rt.alloc();

@@ -1,9 +1,6 @@
 use Rattle.std.proofs.Common.{arith}
-use Rattle.czi_image.proofs.AtEnd.{ends_at_end, disjoint_at_end}
+use Rattle.czi_test_image.proofs.Removed.{can_at_end}
 use Rattle.czi_test_image.proofs.indexes.removed_at_end.Goals as goal
 
-pub remove_tile-requires-clause-ends : goal.remove_tile-requires-clause-ends
-remove_tile-requires-clause-ends c = ends_at_end c.args.index c.args.i c.directory_at-directory.result _ (omega arith) (omega arith)
-
-pub remove_tile-requires-clause-disjoint : goal.remove_tile-requires-clause-disjoint
-remove_tile-requires-clause-disjoint c = disjoint_at_end c.args.index c.args.i c.directory_at-directory.result (omega arith)
+pub apply-requires-clause-can : goal.apply-requires-clause-can
+apply-requires-clause-can c = can_at_end _ c.args.i _ c.directory_at-directory.result _ c.in_ok-change.ensures (omega arith) (omega arith) (omega arith) (omega arith)
