@@ -2,3 +2,4 @@ pub mod Editing
 pub mod Opening
 pub mod Sealing
 pub mod Beginning
+pub mod Mapped

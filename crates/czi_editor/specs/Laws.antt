@@ -18,8 +18,8 @@ use Rattle.czi_machine.specs.State.{State as MachineState}
 use Rattle.czi_report.specs.Refusals.{cause_text}
 use Rattle.czi_report.specs.Replies.{no_line, ok_line}
 use Rattle.czi_report.specs.States.{list_of, info_of}
-use Rattle.czi_report.specs.Text.{items_text, text_line}
-use Rattle.czi_script.specs.Script.{Command, Remove, Listing, Info}
+use Rattle.czi_report.specs.Text.{check_text, items_text, map_text, text_line}
+use Rattle.czi_script.specs.Script.{Command, Remove, Listing, Info, Map, Check}
 use Rattle.czi_opening.proofs.Verdict.{one_cause}
 use Rattle.czi_engine.specs.declared.engine.Engine.{Engine}
 use Rattle.czi_engine.specs.Editing.{ShowsAlone}
@@ -90,10 +90,12 @@ edit_some (Err refusal) = no_some refusal
 
 -- no reply is empty
 pub each_says : (s : MachineState) (c : Command) → 0 < length (reply s c)
-unfolding list_of info_of items_text text_line
+unfolding list_of info_of map_text check_text items_text text_line
 each_says s (Remove dims) = edit_some (after_edit s (remove dims))
 each_says s Listing = zero-lt-suc _
 each_says s Info = zero-lt-suc _
+each_says s Map = zero-lt-suc _
+each_says s Check = zero-lt-suc _
 
 -- a pair is refused with one text
 pub refused_once_of : (image journal text other : List ℕ) → IsRefused image journal text → IsRefused image journal other → text ≡ other

@@ -3,15 +3,18 @@
 ghost use Rattle.std.specs.Prelude.{◌≡◌, ◌++◌, List, ℕ, None, Err, IfErr, OnOk};
 ghost use Rattle.czi_doc.specs.View.{dims_of};
 ghost use Rattle.czi_format.specs.Live.{Live};
-ghost use Rattle.czi_image.specs.Holds.{Holds};
+ghost use Rattle.czi_format.specs.Layout.{Layout};
+ghost use Rattle.czi_image.specs.Holds.{Holds, LiesAs};
 ghost use Rattle.czi_machine.specs.Edit.{remove};
 ghost use Rattle.czi_machine.specs.Machine.{after_edit};
-ghost use Rattle.czi_report.specs.Text.{info_text, list_text};
+ghost use Rattle.czi_report.specs.States.{check_of};
+ghost use Rattle.czi_report.specs.Text.{info_text, list_text, map_text};
 ghost use Rattle.czi_rig.specs.Faults.{Faults, fault_at};
 ghost use Rattle.czi_rig.specs.Passes.{GoesOn};
 ghost use Rattle.czi_rig.specs.Moments.{Throughout};
 ghost use Rattle.czi_rig.specs.Spans.{EachTwo};
 ghost use Rattle.czi_script.specs.Script.{Remove};
+ghost use Rattle.czi_space.specs.State.{space_of};
 ghost use Rattle.czi_session.specs.Stops.{editor_device};
 ghost use Rattle.czi_session.specs.Course.{EitherSide, Stands};
 ghost use Rattle.czi_editor.specs.Laws.{begins_unsealed_of, each_says, refused_once_of, rests_now_of, stays_ready_of};
@@ -22,7 +25,7 @@ use crate::refusal::stop_of;
 use crate::reply::push_no;
 use czi_doc::Dims;
 use czi_engine::Engine;
-use czi_report::{info, list, push_ok};
+use czi_report::{check, info, list, map, push_ok};
 use czi_rig::{Failed, Rig};
 use czi_script::Command;
 use czi_session::{Editor, EditorStop, OpenStop};
@@ -96,6 +99,28 @@ fn push_info(engine: &Engine, reply: &mut Vec<u8>) -> Result<(), EditorStop>
     }
 }
 
+/// Appends where space is free, and where it is held back.
+fn push_map(engine: &Engine, reply: &mut Vec<u8>) -> Result<(), EditorStop>
+    ensures said { OnOk result (reply.new.items ≡ reply.old.items ++ map_text engine.now.state.map.length (space_of engine.now.state.map).runs engine.now.state.map.held) }
+    ensures stopped { IfErr result (λ stop. stop ≡ EditorStop.Memory) }
+{
+    match map(engine.map(), reply) {
+        Ok(()) => Ok(()),
+        Err(AllocError) => Err(EditorStop::Memory),
+    }
+}
+
+/// Appends how much of the image is what.
+fn push_check(engine: &Engine, reply: &mut Vec<u8>) -> Result<(), EditorStop>
+    ensures said { OnOk result ((l : Layout) → LiesAs l engine.now.state.index → reply.new.items ≡ reply.old.items ++ check_of l) }
+    ensures stopped { IfErr result (λ stop. stop ≡ EditorStop.Memory) }
+{
+    match check(engine.index(), reply) {
+        Ok(()) => Ok(()),
+        Err(AllocError) => Err(EditorStop::Memory),
+    }
+}
+
 impl Editor for ImageEditor {
     ghost model = { the_machine };
 
@@ -130,6 +155,8 @@ impl Editor for ImageEditor {
             Command::Remove { dims } => remove(&mut self.engine, rig, dims, reply),
             Command::List => push_list(&self.engine, reply),
             Command::Info => push_info(&self.engine, reply),
+            Command::Map => push_map(&self.engine, reply),
+            Command::Check => push_check(&self.engine, reply),
         }
     }
 

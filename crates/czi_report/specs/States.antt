@@ -1,13 +1,15 @@
--- The texts of `list` and `info` of a state: of a document, and of the layout that says where it lies.
-use Rattle.std.specs.Prelude.{◌≡◌, ℕ, List, ◌++◌, length, codes, Option, Some, None, option_map}
+-- The texts of `list`, `info`, `map` and `check` of a state: of a document, and of the layout that says where it lies.
+use Rattle.std.specs.Prelude.{◌≡◌, ℕ, ◌+◌, ◌-◌, List, ◌++◌, length, codes, Option, Some, None, option_map}
 use Rattle.std.specs.List.{zip}
 use Rattle.czi_format.specs.Document.{Subblock, Attachment, Metadata, Document}
 use Rattle.czi_format.specs.Layout.{Place, Layout}
 use Rattle.czi_format.specs.Live.{Live}
-use Rattle.czi_format.specs.Span.{Span}
+use Rattle.czi_format.specs.Span.{Span, sorted, span_le}
 use Rattle.czi_machine.specs.Laws.{LiesLoosely}
+use Rattle.czi_machine.specs.Places.{live_places, space_of}
+use Rattle.czi_machine.specs.Sound.{usable_held}
 use Rattle.czi_machine.specs.State.{State, spans_of}
-use Rattle.czi_report.specs.Text.{items_text, number_line, tile_line_of, guid_line, directory_line, tile_info_line_of, attachment_line_of, metadata_line_of, no_metadata_line, list_text, info_text}
+use Rattle.czi_report.specs.Text.{items_text, number_line, tile_line_of, guid_line, directory_line, tile_info_line_of, attachment_line_of, metadata_line_of, no_metadata_line, list_text, info_text, map_text, check_text}
 
 -- one subblock in `list`, beside its extent
 abbrev pub listed_line : ℕ → Span × Subblock → List ℕ
@@ -44,6 +46,16 @@ info_of d l = number_line (codes "length ") l.length
     ++ (directory_line (codes "attdir ") (span_of_place l.attdir)
     ++ (items_text (codes "attachments ") attached_line (zip (spans_of l.attachments) d.attachments)
     ++ metadata_at (span_of_place l.metadata) d.metadata)))))
+
+-- `map`: the length, the free runs, and the spans that undos may bring back, in order of place. A held span that isn't walked or
+-- aligned lies in no DELETED extent, and isn't counted.
+abbrev pub map_of : State → List ℕ
+map_of s = map_text s.layout.length (space_of s).runs (sorted span_le (usable_held s))
+
+-- `check`: the live segments with the file header, the DELETED extents, the unknown segments, and what the length has past the
+-- walk's end
+abbrev pub check_of : Layout → List ℕ
+check_of l = check_text (1 + length (live_places l)) (length l.deleted) (length l.unknown) (l.length - l.walk_end)
 
 -- The reply to `list` over an image is that of each state that lies in it.
 abbrev pub ListsState : Type 0

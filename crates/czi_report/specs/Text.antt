@@ -1,4 +1,4 @@
--- The pieces of lines, and the texts of `list` and `info`: each line ends with a line feed.
+-- The pieces of lines, and the texts of `list`, `info`, `map` and `check`: each line ends with a line feed.
 use Rattle.std.specs.Prelude.{ℕ, ℤ, ◌+◌, List, [], ◌∷◌, ◌++◌, length, codes, Option, Some, None}
 use Rattle.std.specs.Fmt.{decimal, signed_decimal}
 use Rattle.uuid.specs.Text.{hyphenated_text, lower}
@@ -106,3 +106,18 @@ info_text n live = number_line (codes "length ") n
     ++ (directory_line (codes "attdir ") (extent_of live.attdir)
     ++ (items_text (codes "attachments ") attachment_line live.attachments
     ++ metadata_line live.metadata)))))
+
+-- where one of a list of spans lies, behind a word
+abbrev pub span_line : List ℕ → ℕ → Span → List ℕ
+span_line word i s = text_line word (span_text s)
+
+-- `map`: the length, the free runs and the held spans
+unfoldable pub map_text : ℕ → List Span → List Span → List ℕ
+map_text n runs held = number_line (codes "length ") n
+    ++ (items_text (codes "runs ") (span_line (codes "run ")) runs
+    ++ items_text (codes "held ") (span_line (codes "held ")) held)
+
+-- `check`: how many live segments, DELETED extents and unknown segments there are, and how many bytes lie past the walk's end
+unfoldable pub check_text : ℕ → ℕ → ℕ → ℕ → List ℕ
+check_text live deleted unknown tail = codes "check live=" ++ (decimal live ++ (codes " runs=" ++ (decimal deleted
+    ++ (codes " unknown=" ++ (decimal unknown ++ (codes " tail=" ++ (decimal tail ++ line_feed)))))))

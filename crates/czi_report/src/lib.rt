@@ -1,19 +1,23 @@
-//! The texts of a run: `list` and `info` (what an index has, a line each), the replies to edits, and why an image isn't
-//! opened. Their pieces are in `text`.
+//! The texts of a run: `list` and `info` (what an index has, a line each), `map` (where space is free or held back), `check` (how
+//! much of an image is what), the replies to edits, and why an image isn't opened. Their pieces are in `text`.
 //!
-//! Each call appends its text to a buffer. Where memory runs out `list` and `info` leave the buffer as it was, and the others
-//! may have appended a front of their line.
+//! Each call appends its text to a buffer. Where memory runs out `list`, `info`, `map` and `check` leave the buffer as it was, and
+//! the others may have appended a front of their line.
 #![tactic(auto)]
 
+mod counts;
 mod details;
 mod laws;
 mod listing;
 mod refusal;
 mod reply;
+mod space;
 pub mod text;
 
+pub use counts::check;
 pub use details::info;
 pub use laws::texts_of_a_state;
 pub use listing::list;
 pub use refusal::push_cause;
 pub use reply::{push_no_full, push_no_key, push_ok};
+pub use space::map;

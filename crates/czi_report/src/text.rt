@@ -84,6 +84,16 @@ pub fn end_with_numbers(
     end_with_number(b" ", second, out)
 }
 
+/// Appends a label, the place of a span and how many bytes lie there, and ends the line.
+#[tactic(auto, unfolding(crate::specs::Text::text_line))]
+pub fn end_with_span(label: &[u8], span: &Span, out: &mut Vec<u8>) -> Result<(), AllocError>
+    ensures ok { OnOk result (out.new.items ≡ out.old.items ++ text_line label.now (span_text (span_of span.now))) }
+    ensures err { OnErr result (Grows out.old.items out.new.items) }
+{
+    push_span(label, span, out)?;
+    out.extend_from_slice(b"\n")
+}
+
 /// Appends a label and dimension text, and ends the line.
 pub fn end_with_dims(label: &[u8], dims: &Dims, out: &mut Vec<u8>) -> Result<(), AllocError>
     ensures ok { OnOk result (out.new.items ≡ out.old.items ++ (label.now ++ (dims_text (dims_of dims.now) ++ line_feed))) }

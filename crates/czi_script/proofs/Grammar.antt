@@ -12,12 +12,9 @@ use Rattle.czi_doc.proofs.Spelled.{found}
 use Rattle.czi_doc.proofs.ReadAgain.{only, only_fault}
 use Rattle.czi_script.specs.declared.kind.Kind.{Kind}
 use Rattle.czi_script.specs.declared.kind.Kind.TheVariants.{Cut, Long, Word, Later, Field, Value, Tail}
-use Rattle.czi_script.specs.Script.{Command, Remove, Listing, Info, HasNo, IsLine, len_before, word, built_words, later_words, is_among, HasFields, IsWrong}
+use Rattle.czi_script.specs.Script.{Command, Remove, Listing, Info, Map, Check, HasNo, IsLine, len_before, word, bare_words, built_words, later_words, is_among, HasFields, IsWrong}
 use Rattle.czi_script.proofs.Bytes.{free_append, all_free, not_free}
-use Rattle.czi_script.proofs.LineKinds.{remove_not_list, remove_not_info, list_not_info, same_value, remove_value, fields_built}
-
-no_truth : true ≡ false → ⊥
-no_truth e = cc
+use Rattle.czi_script.proofs.LineKinds.{no_truth, each_word, remove_value, fields_built}
 
 -- a dimension text has no line feed and no space
 
@@ -52,51 +49,48 @@ free_run b none s (c ∷ text) is = (λ e. no_truth (sym is ∙ ap final (ap (λ
 text_free : (b : ℕ) → ((s : Spot) → arrow s b ≡ dead) → (text : List ℕ) (dims : List Dim) → IsDimText text dims → HasNo b text
 text_free b none text dims is = free_run b none (fresh 39) text (items_run 39 text dims is.items (omega (arith, is.few)))
 
-same_dims : (text : List ℕ) (a b : List Dim) → IsDimText text a → IsDimText text b → a ≡ b
-same_dims text a b p q = apart (items_at 40 text) a b (only 40 text a p.items p.few p.fits) (only 40 text b q.items q.few q.fits)
-  where
-    apart : (r : Result (List Dim) ℕ) (x y : List Dim) → r ≡ Ok x → r ≡ Ok y → x ≡ y
-    apart r x y e f = cc
-
 -- a line spells one command, and has no line feed
 
 pub line_free : (c : Command) (line : List ℕ) → IsLine c line → HasNo 10 line
 line_free (Remove dims) line is = subst (HasNo 10) (sym is.1) (free_append 10 (codes "remove dims=") is.0 (all_free 10 (codes "remove dims=") (omega arith)) (text_free 10 no_feed is.0 dims is.2))
 line_free Listing line is = subst (HasNo 10) (sym is) (all_free 10 (codes "list") (omega arith))
 line_free Info line is = subst (HasNo 10) (sym is) (all_free 10 (codes "info") (omega arith))
+line_free Map line is = subst (HasNo 10) (sym is) (all_free 10 (codes "map") (omega arith))
+line_free Check line is = subst (HasNo 10) (sym is) (all_free 10 (codes "check") (omega arith))
 
 line_fields : (c : Command) (line : List ℕ) → IsLine c line → HasFields line
 line_fields (Remove dims) line is = inl (is.0, is.1, text_free 32 no_space is.0 dims is.2)
-line_fields Listing line is = inr (inl is)
-line_fields Info line is = inr (inr is)
+line_fields Listing line is = inr (ap (is_among bare_words) is)
+line_fields Info line is = inr (ap (is_among bare_words) is)
+line_fields Map line is = inr (ap (is_among bare_words) is)
+line_fields Check line is = inr (ap (is_among bare_words) is)
+
+-- the command that a line may spell
+abbrev the_dims : Result (List Dim) ℕ → List Dim
+the_dims (Ok dims) = dims
+the_dims (Err left) = []
+
+abbrev command_at : List ℕ → Command
+command_at line =
+    if bytes_eq line (codes "list") then Listing
+    else if bytes_eq line (codes "info") then Info
+    else if bytes_eq line (codes "map") then Map
+    else if bytes_eq line (codes "check") then Check
+    else Remove (the_dims (items_at 40 (drop 12 line)))
+
+command_is : (c : Command) (line : List ℕ) → IsLine c line → command_at line ≡ c
+command_is (Remove dims) line is = ap command_at is.1 ∙ ap (λ (r : Result (List Dim) ℕ). Remove (the_dims r)) (only 40 is.0 dims is.2.items is.2.few is.2.fits)
+command_is Listing line is = ap command_at is
+command_is Info line is = ap command_at is
+command_is Map line is = ap command_at is
+command_is Check line is = ap command_at is
 
 pub one_command : (c d : Command) (line : List ℕ) → IsLine c line → IsLine d line → c ≡ d
-one_command (Remove a) (Remove b) line p q = ap Remove (same_dims q.0 a b (subst (λ t. IsDimText t a) (same_value p.0 q.0 (sym p.1 ∙ q.1)) p.2) q.2)
-one_command (Remove a) Listing line p q = absurd (remove_not_list _ [] (sym p.1 ∙ q))
-one_command (Remove a) Info line p q = absurd (remove_not_info _ [] (sym p.1 ∙ q))
-one_command Listing (Remove b) line p q = absurd (remove_not_list _ [] (sym q.1 ∙ p))
-one_command Listing Listing line p q = refl
-one_command Listing Info line p q = absurd (list_not_info [] [] (sym p ∙ q))
-one_command Info (Remove b) line p q = absurd (remove_not_info _ [] (sym q.1 ∙ p))
-one_command Info Listing line p q = absurd (list_not_info [] [] (sym q ∙ p))
-one_command Info Info line p q = refl
+one_command c d line p q = sym (command_is c line p) ∙ command_is d line q
 
 -- the words that are built and the others are apart
-
-later_apart : (w x : List ℕ) → bytes_eq w x ≡ true → is_among later_words x ≡ false → is_among later_words w ≡ false
-later_apart w x e apart = ap (is_among later_words) ((bytes_eq-Decides w x).0 e) ∙ apart
-
-either : (a b c : Bool) → (a || (b || (c || false))) ≡ true → (a ≡ true) ⊎ ((b ≡ true) ⊎ (c ≡ true))
-either true b c e = inl refl
-either false true c e = inr (inl refl)
-either false false true e = inr (inr refl)
-either false false false e = absurd (no_truth (sym e))
-
 built_not_later : (w : List ℕ) → is_among built_words w ≡ true → is_among later_words w ≡ false
-built_not_later w e = elim (either (bytes_eq w (codes "remove")) (bytes_eq w (codes "list")) (bytes_eq w (codes "info")) e) [
-  | inl r ↦ later_apart w (codes "remove") r refl
-  | inr o ↦ elim o [ inl l ↦ later_apart w (codes "list") l refl | inr i ↦ later_apart w (codes "info") i refl ]
-]
+built_not_later w e = each_word (λ x. is_among later_words x ≡ false) built_words (refl, (refl, (refl, (refl, (refl, tt))))) w e
 
 -- whether the fields are right
 
@@ -107,7 +101,7 @@ abbrev pub has_dims : List ℕ → Bool
 has_dims line = if bytes_eq (take 12 line) (codes "remove dims=") then (if is_spaced (drop 12 line) then false else true) else false
 
 abbrev pub has_fields : List ℕ → Bool
-has_fields line = has_dims line || (bytes_eq line (codes "list") || (bytes_eq line (codes "info") || false))
+has_fields line = has_dims line || is_among bare_words line
 
 value_is : (line : List ℕ) → has_dims line ≡ true → (value : List ℕ) × (line ≡ codes "remove dims=" ++ value) × HasNo 32 value
 value_is line e = elim (cases_Bool (bytes_eq (take 12 line) (codes "remove dims="))) [
@@ -134,15 +128,18 @@ value_has line value e free = ap has_dims e ∙ there (elim (cases_Bool (is_spac
     there s = rw s
 
 fields_is : (line : List ℕ) → has_fields line ≡ true → HasFields line
-fields_is line e = elim (either (has_dims line) (bytes_eq line (codes "list")) (bytes_eq line (codes "info")) e) [
+fields_is line e = elim (cases_Bool (has_dims line)) [
   | inl d ↦ inl (value_is line d)
-  | inr o ↦ elim o [ inl l ↦ inr (inl ((bytes_eq-Decides line (codes "list")).0 l)) | inr i ↦ inr (inr ((bytes_eq-Decides line (codes "info")).0 i)) ]
+  | inr none ↦ inr (sym (other none) ∙ e)
 ]
+  where
+    other : has_dims line ≡ false → has_fields line ≡ is_among bare_words line
+    other none = rw none
 
 fields_has : (line : List ℕ) → HasFields line → has_fields line ≡ true
 fields_has line has = elim has [
   | inl r ↦ first (has_dims line) _ (value_has line r.0 r.1 r.2)
-  | inr b ↦ elim b [ inl l ↦ ap has_fields l | inr i ↦ ap has_fields i ]
+  | inr bare ↦ each_word (λ x. has_fields x ≡ true) bare_words (refl, (refl, (refl, (refl, tt)))) line bare
 ]
   where
     first : (a b : Bool) → a ≡ true → (a || b) ≡ true
@@ -194,7 +191,7 @@ line_is line = elim (cases_Bool (is_among later_words (word line))) [
       | inr none ↦ inr (Field, (built, λ has. no_truth (sym (fields_has line has) ∙ none)))
       | inl some ↦ elim (fields_is line some) [
         | inl r ↦ text_is line r.0 r.1 r.2 (items_at 40 r.0) refl
-        | inr b ↦ elim b [ inl l ↦ inl (Listing, l) | inr i ↦ inl (Info, i) ]
+        | inr bare ↦ inl (each_word (λ x. (c : Command) × IsLine c x) bare_words ((Listing, refl), ((Info, refl), ((Map, refl), ((Check, refl), tt)))) line bare)
       ]
     ]
   ]

@@ -7,11 +7,14 @@ use Rattle.czi_doc.specs.DimText.{IsDimText}
 use Rattle.czi_script.specs.declared.kind.Kind.{Kind}
 use Rattle.czi_script.specs.declared.kind.Kind.TheVariants.{Cut, Long, Word, Later, Field, Value, Tail}
 
--- What a script asks for: to remove the subblock that these dimensions name, to list the subblocks, or to tell of the image.
+-- What a script asks for: to remove the subblock that these dimensions name, to list the subblocks, to tell of the image, to
+-- map its free space, or to count its segments.
 pub data Command : Type 0 where
   Remove : List Dim → Command
   Listing : Command
   Info : Command
+  Map : Command
+  Check : Command
 
 -- none of the bytes is b
 abbrev pub HasNo : ℕ → List ℕ → Type 0
@@ -23,6 +26,8 @@ abbrev pub IsLine : Command → List ℕ → Type 0
 IsLine (Remove dims) line = (text : List ℕ) × (line ≡ codes "remove dims=" ++ text) × IsDimText text dims
 IsLine Listing line = line ≡ codes "list"
 IsLine Info line = line ≡ codes "info"
+IsLine Map line = line ≡ codes "map"
+IsLine Check line = line ≡ codes "check"
 
 -- The bytes spell the command: its line, of at most 4096 bytes with the line feed.
 pub record Spells (c : Command) (bytes : List ℕ) : Type 0 where
@@ -46,19 +51,22 @@ len_before b bytes = prefix_len (λ x. not (x == b)) bytes
 abbrev pub word : List ℕ → List ℕ
 word line = take (len_before 32 line) line
 
--- the command words that are built, and those of the format that are not built yet
+-- the command words of lines without fields, those that are built, and those of the format that are not built yet
+abbrev pub bare_words : List (List ℕ)
+bare_words = codes "list" ∷ codes "info" ∷ codes "map" ∷ codes "check" ∷ []
+
 abbrev pub built_words : List (List ℕ)
-built_words = codes "remove" ∷ codes "list" ∷ codes "info" ∷ []
+built_words = codes "remove" ∷ bare_words
 
 abbrev pub later_words : List (List ℕ)
-later_words = codes "add" ∷ codes "replace" ∷ codes "attach" ∷ codes "reattach" ∷ codes "detach" ∷ codes "meta" ∷ codes "undo" ∷ codes "repack" ∷ codes "map" ∷ codes "check" ∷ codes "region" ∷ []
+later_words = codes "add" ∷ codes "replace" ∷ codes "attach" ∷ codes "reattach" ∷ codes "detach" ∷ codes "meta" ∷ codes "undo" ∷ codes "repack" ∷ codes "region" ∷ []
 
 abbrev pub is_among : List (List ℕ) → List ℕ → Bool
 is_among words w = list_any (bytes_eq w) words
 
--- The fields of a line are right: `remove` has one, dims; `list` and `info` have none. No value has a space.
+-- The fields of a line are right: `remove` has one, dims; a bare word has none. No value has a space.
 abbrev pub HasFields : List ℕ → Type 0
-HasFields line = ((value : List ℕ) × (line ≡ codes "remove dims=" ++ value) × HasNo 32 value) ⊎ ((line ≡ codes "list") ⊎ (line ≡ codes "info"))
+HasFields line = ((value : List ℕ) × (line ≡ codes "remove dims=" ++ value) × HasNo 32 value) ⊎ IsTrue (is_among bare_words line)
 
 -- Why a whole line is no command: its word is none of the format's or isn't built yet, its fields aren't right, or a value
 -- of them isn't of its form.

@@ -14,4 +14,8 @@ pub enum Command {
     List,
     /// `info`: numbers of the document are to be told.
     Info,
+    /// `map`: the free space is to be told.
+    Map,
+    /// `check`: the segments are to be counted.
+    Check,
 }

@@ -61,9 +61,8 @@ pub(crate) fn front_of(bytes: &[u8], seen: usize) -> Front
 }
 
 /// The command words of the format that aren't built yet.
-const LATER_WORDS: [&str; 11] = [
-    "add", "replace", "attach", "reattach", "detach", "meta", "undo", "repack", "map", "check",
-    "region",
+const LATER_WORDS: [&str; 9] = [
+    "add", "replace", "attach", "reattach", "detach", "meta", "undo", "repack", "region",
 ];
 
 /// Whether the bytes are this text.
@@ -126,6 +125,10 @@ pub(crate) fn command_in(alloc: Global, line: &[u8]) -> Result<Command, Refusal>
         bare(Command::List, fields)
     } else if is_text(word, "info") {
         bare(Command::Info, fields)
+    } else if is_text(word, "map") {
+        bare(Command::Map, fields)
+    } else if is_text(word, "check") {
+        bare(Command::Check, fields)
     } else if is_later(word) {
         Err(Refusal::Kind(Kind::Later))
     } else {

@@ -1,7 +1,7 @@
-//! `czi_report`: the texts of `list` and `info`.
+//! `czi_report`: the texts of `list`, `info` and `check`.
 
 use crate::documents::{Part, image_of, index_in};
-use czi_report::{info, list};
+use czi_report::{check, info, list};
 use std::alloc::Global;
 use std::process::Abort;
 use std::test::Fail;
@@ -12,6 +12,7 @@ struct Said {
     parts: &'static [Part],
     list: &'static [u8],
     info: &'static [u8],
+    check: &'static [u8],
 }
 
 // Two subblocks with the dimensions C, X with a stored size of 0, and Y of a second layer. The directory stands at 544, its
@@ -59,6 +60,7 @@ static SUBBLOCKS: Said = Said {
         attdir none\n\
         attachments 0\n\
         metadata none\n",
+    check: b"=check live=4 runs=0 unknown=0 tail=0\n",
 };
 
 // An attachment and metadata. The directory stands at 544, the attachment directory at 704 and its entry at 992, the
@@ -109,6 +111,7 @@ static ITEMS: Said = Said {
         attachments 1\n\
         attachment 0 1120 320 guid=00112233-4455-6677-8899-aabbccddeeff type=TXT name=Event%20List data=5\n\
         metadata 1440 320 xml=1 att=0\n",
+    check: b"=check live=5 runs=0 unknown=0 tail=0\n",
 };
 
 // A file header alone.
@@ -123,9 +126,10 @@ static NOTHING: Said = Said {
         attdir none\n\
         attachments 0\n\
         metadata none\n",
+    check: b"=check live=1 runs=0 unknown=0 tail=0\n",
 };
 
-// Both texts are appended behind what stands before.
+// The texts are appended behind what stands before.
 fn check_said(rt: &impl Abort, alloc: Global, said: &Said) -> Result<(), Fail> {
     let image = image_of(rt, alloc, said.length, said.parts)?;
     let index = index_in(alloc, &image)?;
@@ -135,6 +139,9 @@ fn check_said(rt: &impl Abort, alloc: Global, said: &Said) -> Result<(), Fail> {
     text.truncate(1);
     info(&index, &mut text)?;
     assert!(rt; text.as_slice() == said.info);
+    text.truncate(1);
+    check(&index, &mut text)?;
+    assert!(rt; text.as_slice() == said.check);
     Ok(())
 }
 

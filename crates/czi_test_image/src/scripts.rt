@@ -30,20 +30,26 @@ impl Source for Drip {
 // A script, how many commands are read of it, and why no further one is.
 type Row = (&'static [u8], u64, Option<Kind>);
 
-static SCRIPTS: [Row; 28] = [
+static SCRIPTS: [Row; 34] = [
     (b"", 0, None),
     (b"list\n", 1, None),
     (b"info\nlist\nremove dims=C0,X0:4,Y0:2:1\n", 3, None),
+    (b"map\ncheck\nmap\n", 3, None),
     (b"list", 0, Some(Kind::Cut)),
     (b"list\nadd", 1, Some(Kind::Cut)),
+    (b"map\nchec", 1, Some(Kind::Cut)),
     (b"\n", 0, Some(Kind::Word)),
     (b"list\n\nlist\n", 1, Some(Kind::Word)),
     (b"lists\n", 0, Some(Kind::Word)),
+    (b"maps\n", 0, Some(Kind::Word)),
     (b"list\r\n", 0, Some(Kind::Word)),
     (b" list\n", 0, Some(Kind::Word)),
     (b"LIST\n", 0, Some(Kind::Word)),
     (b"list \n", 0, Some(Kind::Field)),
     (b"info\ninfo x=1\n", 1, Some(Kind::Field)),
+    (b"map x=1\n", 0, Some(Kind::Field)),
+    (b"map\ncheck x=1\n", 1, Some(Kind::Field)),
+    (b"check \n", 0, Some(Kind::Field)),
     (b"remove\n", 0, Some(Kind::Field)),
     (b"remove dims\n", 0, Some(Kind::Field)),
     (b"remove name=C0\n", 0, Some(Kind::Field)),
@@ -62,9 +68,8 @@ static SCRIPTS: [Row; 28] = [
 ];
 
 // The command words of the format that aren't built.
-static WORDS: [&str; 11] = [
-    "add", "replace", "attach", "reattach", "detach", "meta", "undo", "repack", "map", "check",
-    "region",
+static WORDS: [&str; 9] = [
+    "add", "replace", "attach", "reattach", "detach", "meta", "undo", "repack", "region",
 ];
 
 // How long a line is, whether a line feed follows, and what kind of fault it is.

@@ -32,8 +32,15 @@ pub(crate) fn one_tile_rig(alloc: Global, failing: u64) -> Result<MemRig, AllocE
 }
 
 // Scripts, the status and what is said, how long the journal is then, and what `info` says.
-static SCRIPTS: [(&[u8], u8, &[u8], usize, &[u8]); 8] = [
+static SCRIPTS: [(&[u8], u8, &[u8], usize, &[u8]); 9] = [
     (SCRIPT, 0, REPLIES, 1, REMOVED),
+    (
+        b"remove dims=C0,X0:4,Y0:2\nmap\ncheck\n",
+        0,
+        b"ok 1\nlength 1280\nruns 1\nrun 544 160\nheld 1\nheld 704 320\ncheck live=2 runs=1 unknown=0 tail=0\n",
+        1,
+        REMOVED,
+    ),
     (
         b"remove dims=Y0:2,C0,X0:4\nremove dims=C1,X0:4,Y0:2\n",
         0,

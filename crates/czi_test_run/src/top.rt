@@ -25,7 +25,7 @@ fn check_told(
 }
 
 // What is said of the document without subblocks, with so many bytes and these changes.
-static TOLD: [(usize, &[Part], &str, &[u8]); 3] = [
+static TOLD: [(usize, &[Part], &str, &[u8]); 7] = [
     (704, &[], "list", NO_TILES),
     (
         704,
@@ -40,6 +40,20 @@ static TOLD: [(usize, &[Part], &str, &[u8]); 3] = [
         metadata none\n",
     ),
     (804, &[(704, &[0xFF; 100])], "list", NO_TILES),
+    (704, &[], "map", b"length 704\nruns 0\nheld 0\n"),
+    (704, &[], "check", b"check live=2 runs=0 unknown=0 tail=0\n"),
+    (
+        804,
+        &[(704, &[0xFF; 100])],
+        "check",
+        b"check live=2 runs=0 unknown=0 tail=100\n",
+    ),
+    (
+        740,
+        &[(704, b"OTHER")],
+        "check",
+        b"check live=2 runs=0 unknown=1 tail=4\n",
+    ),
 ];
 
 #[test]
@@ -55,7 +69,21 @@ fn images_are_listed_and_told_of(rt: HostRuntime) -> Result<(), Fail> {
 fn check_tile_told(rt: &impl Abort, alloc: Global) -> Result<(), Fail> {
     let image = one_tile(alloc, 1280, &[])?;
     check_told(rt, alloc, &image, "list", TILE)?;
-    check_told(rt, alloc, &image, "info", ONE)
+    check_told(rt, alloc, &image, "info", ONE)?;
+    check_told(
+        rt,
+        alloc,
+        &image,
+        "map",
+        b"length 1280\nruns 1\nrun 544 160\nheld 0\n",
+    )?;
+    check_told(
+        rt,
+        alloc,
+        &image,
+        "check",
+        b"check live=3 runs=1 unknown=0 tail=0\n",
+    )
 }
 
 // The first rules that refuse the document without subblocks, with so many bytes and these changes.

@@ -8,6 +8,9 @@ use Rattle.czi_session.specs.declared.stop.Ended.TheVariants.{Done, Refused, Sto
 use Rattle.czi_session.specs.declared.stop.Stop.TheVariants.{Script, Image, Journal, Output, Input, Memory, TooLong}
 use Rattle.czi_session.specs.Ends.{Answers, Quiet, SaysRefusal}
 use Rattle.czi_session.specs.Stops.{EndsOpening, end_device}
+use Rattle.czi_editor.specs.Machine.{Begun}
+use Rattle.czi_editor.specs.Replies.{still}
+use Rattle.czi_top.specs.Words.{Query, list, info, map, check, step}
 use Rattle.czi_top.specs.Run.{MayBeUnopened, SaysLine, SaysUsage, code_of, status_device}
 
 -- no fault came, also none of an input that isn't read
@@ -63,3 +66,10 @@ says_line (Stopped Output) status old new before text is was says = inr (inl (is
 says_line (Stopped Input) status old new before text is was says = absurd says
 says_line (Stopped Memory) status old new before text is was says = inr (inr (inr (inr is), says ∙ sym was))
 says_line (Stopped TooLong) status old new before text is was says = absurd says
+
+-- a query changes nothing
+pub still_step : (b : Begun) (q : Query) → still b.state (step q)
+still_step b list = tt
+still_step b info = tt
+still_step b map = tt
+still_step b check = tt

@@ -4,7 +4,7 @@ use Rattle.czi_rig.specs.State.{State}
 use Rattle.czi_rig.specs.declared.rig.Rig.{Ghosts}
 use Rattle.czi_rig.specs.Faults.{Device, image, journal, output, input}
 use Rattle.czi_rig.specs.Moments.{Devices, devices}
-use Rattle.czi_script.specs.Script.{Command as Step, Listing, Info, End, Done as Finished, Reads}
+use Rattle.czi_script.specs.Script.{Command as Step, End, Done as Finished, Reads}
 use Rattle.czi_session.specs.Course.{OnlyReads, Opening}
 use Rattle.czi_session.specs.Ends.{EndsSo, OneEnds, OpeningEnds, Takes, most_of}
 use Rattle.czi_session.specs.Stops.{EndsAlone}
@@ -12,17 +12,16 @@ use Rattle.czi_session.specs.declared.stop.Ended.{Ended}
 use Rattle.czi_session.specs.declared.stop.Ended.TheVariants.{Done, Refused, Stopped}
 use Rattle.czi_session.specs.declared.stop.Stop.TheVariants.{Script, Image, Journal, Output, Input, Memory, TooLong}
 use Rattle.czi_editor.specs.Machine.{Begun, IsRefused, the_machine}
-use Rattle.czi_top.specs.Words.{Command, list, info, edit}
+use Rattle.czi_top.specs.Words.{Command, query, edit, step}
 
 -- what is said where the words are no command
 unfoldable pub usage : List ℕ
 usage = codes "usage: czi_tool FILE COMMAND [name=value ...]" ++ 10 ∷ []
 
--- The commands of a run, and how they end: `list` and `info` are the script of that one line; `edit` runs the script that the
--- input gives.
+-- The commands of a run, and how they end: a query is the script of that one line; `edit` runs the script that the input
+-- gives.
 abbrev pub Asks : Command → Option (List ℕ) → List Step → End → Type 0
-Asks list left cs end = (cs ≡ Listing ∷ []) × (end ≡ Finished)
-Asks info left cs end = (cs ≡ Info ∷ []) × (end ≡ Finished)
+Asks (query q) left cs end = (cs ≡ step q ∷ []) × (end ≡ Finished)
 Asks edit left cs end = (input : List ℕ) × (left ≡ Some input) × Reads 1 input cs end
 
 -- the exit status
@@ -39,14 +38,12 @@ code_of (Stopped TooLong) = 9
 
 -- What stands and was said where a run ends that began at a state: `left` is what the input had left, `now` what it has left.
 abbrev pub EndsAt : Command → State → (left now : Option (List ℕ)) → Begun → List ℕ → Ended → Type 0
-EndsAt list state left now b said ended = OneEnds the_machine state b Listing said ended
-EndsAt info state left now b said ended = OneEnds the_machine state b Info said ended
+EndsAt (query q) state left now b said ended = OneEnds the_machine state b (step q) said ended
 EndsAt edit state left now b said ended = (cs : List Step) (end : End) (input : List ℕ) → left ≡ Some input → Reads 1 input cs end → EndsSo the_machine state now b cs end said input ended
 
--- `list` and `info` end in no fault of a script or the input
+-- a query ends in no fault of a script or the input
 abbrev pub IsAlone : Command → Ended → Type 0
-IsAlone list ended = EndsAlone ended
-IsAlone info ended = EndsAlone ended
+IsAlone (query q) ended = EndsAlone ended
 IsAlone edit ended = Unit {0}
 
 -- it ended with this status
@@ -58,20 +55,17 @@ pub record EndsWith (command : Command) (old new : State) (left now : Option (Li
 
 -- what is taken of the input: nothing but by `edit`
 abbrev pub TakesFor : Command → (left now : Option (List ℕ)) → Ended → Type 0
-TakesFor list left now ended = now ≡ left
-TakesFor info left now ended = now ≡ left
+TakesFor (query q) left now ended = now ≡ left
 TakesFor edit left now ended = Takes left now (most_of ended)
 
 -- the same, told by the status
 abbrev pub Took : Command → (left now : Option (List ℕ)) → ℕ → Type 0
-Took list left now status = now ≡ left
-Took info left now status = now ≡ left
+Took (query q) left now status = now ≡ left
 Took edit left now status = (ended : Ended) × (status ≡ code_of ended) × Takes left now (most_of ended)
 
 -- the script is one that ends well, and not too long
 abbrev pub EndsWell : Command → Option (List ℕ) → Type 0
-EndsWell list left = Unit {0}
-EndsWell info left = Unit {0}
+EndsWell (query q) left = Unit {0}
 EndsWell edit left = (cs : List Step) × (input : List ℕ) × (left ≡ Some input) × Reads 1 input cs Finished × (length input ≤ 2 ^ 40)
 
 -- both files are refused, and this is the line that says why
@@ -104,14 +98,13 @@ status_device status =
 abbrev pub MayBeUnopened : ℕ → Type 0
 MayBeUnopened status = (status ≡ 4) ⊎ (status ≡ 5) ⊎ (status ≡ 8)
 
--- `list` and `info` open the files, and then leave them alone until the reply is said; or the files didn't open.
+-- A query opens the files, and then leaves them alone until the reply is said; or the files didn't open.
 abbrev pub LooksOnly : {D : Type 0} → Ghosts D → D → D → Step → List ℕ → Begun → Ended → Type 0
 LooksOnly rig old new c said b ended = OpeningEnds the_machine (rig.state new) b said ended
     ⊎ (OnlyReads rig old new the_machine said (the_machine.reply b c) b (the_machine.after b c) × (ended ≢ Stopped Image))
 
 abbrev pub Looks : {D : Type 0} → Ghosts D → D → D → Command → List ℕ → Begun → Ended → Type 0
-Looks rig old new list said b ended = LooksOnly rig old new Listing said b ended
-Looks rig old new info said b ended = LooksOnly rig old new Info said b ended
+Looks rig old new (query q) said b ended = LooksOnly rig old new (step q) said b ended
 Looks rig old new edit said b ended = Unit {0}
 
 -- the same, told by the status

@@ -8,20 +8,21 @@ ghost use Rattle.czi_rig.specs.State.{SameFiles, seen_of};
 ghost use Rattle.czi_rig.specs.Faults.{Faults, FaultsWith};
 ghost use Rattle.czi_rig.specs.Passes.{GoesOn};
 ghost use Rattle.czi_rig.specs.Moments.{devices, Throughout, LeavesSaying};
-ghost use Rattle.czi_script.specs.Script.{Command as Step, End};
+ghost use Rattle.czi_script.specs.Script.{Command as Line, End};
+ghost use Rattle.czi_script.specs.View.{command_of as line_of};
 ghost use Rattle.czi_session.specs.Course.{AtEveryMoment, KeepsRefused, OnceAlike, Opening};
 ghost use Rattle.czi_session.specs.Ends.{Answers, Quiet, RefusedEnds, RefusedSo};
 ghost use Rattle.czi_session.specs.Stops.{EndsOpening, IsFile, end_device};
 ghost use Rattle.czi_session.specs.Text.{last_text};
 ghost use Rattle.czi_editor.specs.Machine.{Begun, the_machine};
-ghost use Rattle.czi_top.specs.Words.{command_of};
-ghost use Rattle.czi_top.specs.View.{command_view};
+ghost use Rattle.czi_top.specs.Words.{command_of, step};
+ghost use Rattle.czi_top.specs.View.{command_view, query_view};
 ghost use Rattle.czi_top.specs.Run.{Asks, EndsAt, EndsWell, EndsWith, IsAlone, Looks, LooksWith, MayBeUnopened, RefusedWith, SaysLine, SaysUsage, TakesFor, Took, code_of, status_device, usage};
 
-use crate::words::{Command, command_of};
+use crate::words::{Command, Query, command_of};
 use czi_editor::ImageEditor;
 use czi_rig::{Failed, File, Rig, Source};
-use czi_script::Command as Query;
+use czi_script::Command as Step;
 use czi_session::{Ended, Stop, edit, one};
 use std::alloc::Global;
 
@@ -41,11 +42,23 @@ fn say_usage<R: Rig>(rig: &mut R) -> u8
     }
 }
 
+/// The query as a command of a script.
+fn step_of(query: Query) -> Step
+    ensures { line_of result ≡ step (query_view query) }
+{
+    match query {
+        Query::List => Step::List,
+        Query::Info => Step::Info,
+        Query::Map => Step::Map,
+        Query::Check => Step::Check,
+    }
+}
+
 /// Runs the script that a command stands for.
 fn obey<R: Rig, S: Source>(alloc: Global, command: Command, rig: &mut R, input: &mut S) -> Ended
-    ensures headline { (cs : List Step) (end : End) (said : List ℕ) (b : Begun) → Asks (command_view command) (S.input input.old).left cs end → Opening the_machine (R.state rig.old) said b →
+    ensures headline { (cs : List Line) (end : End) (said : List ℕ) (b : Begun) → Asks (command_view command) (S.input input.old).left cs end → Opening the_machine (R.state rig.old) said b →
         AtEveryMoment R.Rig rig.old rig.new the_machine b cs (last_text end) said (IsFile (end_device result)) (EndsOpening result) }
-    ensures alike { (cs : List Step) (end : End) (said : List ℕ) (b : Begun) → Asks (command_view command) (S.input input.old).left cs end → Opening the_machine (R.state rig.old) said b →
+    ensures alike { (cs : List Line) (end : End) (said : List ℕ) (b : Begun) → Asks (command_view command) (S.input input.old).left cs end → Opening the_machine (R.state rig.old) said b →
         OnceAlike R.Rig rig.old rig.new the_machine (end_device result) }
     ensures ends { (said : List ℕ) (b : Begun) → Opening the_machine (R.state rig.old) said b → EndsAt (command_view command) (R.state rig.new) (S.input input.old).left (S.input input.new).left b said result }
     ensures void { result ≡ Ended.Done → ForSome (seen_of (R.state rig.new) File.Journal) (λ journal. slot_of journal ≡ Void) }
@@ -63,8 +76,7 @@ fn obey<R: Rig, S: Source>(alloc: Global, command: Command, rig: &mut R, input: 
     ensures cause { FaultsWith (end_device result) (R.state rig.old) (R.state rig.new) (S.input input.old).faults (S.input input.new).faults }
 {
     match command {
-        Command::List => one::<ImageEditor, R>(alloc, rig, &Query::List),
-        Command::Info => one::<ImageEditor, R>(alloc, rig, &Query::Info),
+        Command::Query(query) => one::<ImageEditor, R>(alloc, rig, &step_of(query)),
         Command::Edit => edit::<ImageEditor, R, S>(alloc, rig, input),
     }
 }
@@ -89,8 +101,10 @@ fn code_of(ended: Ended) -> u8
 /// Does what the words ask for, and answers the exit status.
 ///
 /// `FILE list` says how many subblocks the image has, and a line for each; `FILE info` says all that the image holds, and
-/// where it lies; `FILE edit` runs the script that the input gives. Each opens the image beside its journal, with recovery,
-/// and seals the journal at the end. A command's whole reply is said before the next command is read.
+/// where it lies; `FILE map` says how long the image is, where it is free, and which free space is held back; `FILE check` says
+/// how many segments are live, are free and are unknown, and how many bytes lie behind them; `FILE edit` runs the script that
+/// the input gives. Each opens the image beside its journal, with recovery, and seals the journal at the end. A command's
+/// whole reply is said before the next command is read.
 ///
 /// The statuses: 0 everything was done; 1 the words are no command, and the usage line is said; 2 the image is refused, and
 /// the refusal is said; 3 the input isn't a script, and its fault is said; 4, 5, 6, 7 a fault of the image, the journal, the
@@ -108,13 +122,13 @@ pub fn run<R: Rig, S: Source>(alloc: Global, words: &[String], rig: &mut R, inpu
     // before. (Until opening has made both files durable, a crash leaves nothing that it couldn't have left at the start. Only
     // where a file fails before, with 4 or 5, that is all. Where the files don't open, with 4, 5 or 8, what is left from then on
     // opens to the state at the start, with nothing said.)
-    ensures headline { ForSome (command_of (map (λ s. string_bytes s) words.now)) (λ command. (cs : List Step) (end : End) (said : List ℕ) (b : Begun) →
+    ensures headline { ForSome (command_of (map (λ s. string_bytes s) words.now)) (λ command. (cs : List Line) (end : End) (said : List ℕ) (b : Begun) →
         Asks command (S.input input.old).left cs end → Opening the_machine (R.state rig.old) said b →
         AtEveryMoment R.Rig rig.old rig.new the_machine b cs (last_text end) said (IsFile (status_device result)) (MayBeUnopened result)) }
     // Any two pairs that a crash at one moment leaves have the same bytes in each item that both need, those that the run brings
     // included: so it is of any two of one span of time, and from the moment at which the files are durable on the run falls into
     // spans that begin and end between two calls on the device.
-    ensures alike { ForSome (command_of (map (λ s. string_bytes s) words.now)) (λ command. (cs : List Step) (end : End) (said : List ℕ) (b : Begun) →
+    ensures alike { ForSome (command_of (map (λ s. string_bytes s) words.now)) (λ command. (cs : List Line) (end : End) (said : List ℕ) (b : Begun) →
         Asks command (S.input input.old).left cs end → Opening the_machine (R.state rig.old) said b → OnceAlike R.Rig rig.old rig.new the_machine (status_device result)) }
     // What stands and was said at the end, by status. The journal is sealed at 0 alone. At 3, 6, 7, 8 and 9 one that counted at
     // the start, or was armed by an edit, still counts, and any other says what it said; so it is where the files didn't open. At
@@ -140,7 +154,7 @@ pub fn run<R: Rig, S: Source>(alloc: Global, words: &[String], rig: &mut R, inpu
     // Where the files open, the script ends well and no fault comes, all is done, or memory is wanting.
     ensures complete { ForSome (command_of (map (λ s. string_bytes s) words.now)) (λ command. (said : List ℕ) (b : Begun) → Opening the_machine (R.state rig.old) said b →
         EndsWell command (S.input input.old).left → Quiet (R.state rig.old) (R.state rig.new) (S.input input.old).faults (S.input input.new).faults → (result ≡ 0) ⊎ (result ≡ 8)) }
-    // `list` and `info` leave both files alone from the opening to the reply.
+    // A query leaves both files alone from the opening to the reply.
     ensures looks { ForSome (command_of (map (λ s. string_bytes s) words.now)) (λ command. (said : List ℕ) (b : Begun) → Opening the_machine (R.state rig.old) said b →
         LooksWith R.Rig rig.old rig.new command said b result) }
     // The run ends at the first fault: with 4, 5, 6 or 7 the count of faults of that device alone has risen, and else none.

@@ -5,11 +5,22 @@ ghost use Rattle.czi_top.specs.Words.{command_of, is_plain, named};
 
 /// What can be asked of an image.
 #[derive(Clone, Copy, PartialEq, Eq)]
-pub(crate) enum Command {
+pub(crate) enum Query {
     /// The subblocks.
     List,
     /// All that the image holds, and where it lies.
     Info,
+    /// The free space.
+    Map,
+    /// How many segments of each sort there are.
+    Check,
+}
+
+/// What the words ask for.
+#[derive(Clone, Copy, PartialEq, Eq)]
+pub(crate) enum Command {
+    /// An answer to a query.
+    Query(Query),
     /// The script that the input gives is to be run.
     Edit,
 }
@@ -29,9 +40,13 @@ fn named(word: &str) -> Option<Command>
     ensures { option_map command_view result ≡ named word.now }
 {
     if word == "list" {
-        Some(Command::List)
+        Some(Command::Query(Query::List))
     } else if word == "info" {
-        Some(Command::Info)
+        Some(Command::Query(Query::Info))
+    } else if word == "map" {
+        Some(Command::Query(Query::Map))
+    } else if word == "check" {
+        Some(Command::Query(Query::Check))
     } else if word == "edit" {
         Some(Command::Edit)
     } else {

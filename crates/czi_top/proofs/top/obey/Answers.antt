@@ -1,36 +1,31 @@
+use Rattle.std.proofs.Common.{◌≡◌, ◌∷◌, [], ap, sym, ◌∙◌, subst}
+use Rattle.czi_script.specs.Script.{Command as Step}
+use Rattle.czi_script.specs.View.{command_of as line_of}
 use Rattle.czi_session.proofs.Stops.{alone_with}
-use Rattle.czi_top.proofs.Ending.{quiet_alone}
+use Rattle.czi_editor.specs.Replies.{still}
+use Rattle.czi_top.proofs.Ending.{quiet_alone, still_step}
 use Rattle.czi_top.proofs.top.obey.Goals as goal
 
-pub returns-in-List-clause-ends : goal.returns-in-List-clause-ends
-returns-in-List-clause-ends g c = rw c.in-List.is c.one.ensures.ends
+pub returns-in-Query-clause-headline : goal.returns-in-Query-clause-headline
+returns-in-Query-clause-headline g c = λ cs end said b asks h.
+    let line : cs ≡ line_of c.step_of.result ∷ [] = (rw c.in-Query.is at asks).0 ∙ ap (λ (x : Step). x ∷ []) (sym c.step_of.ensures) in
+    rw (line, (rw c.in-Query.is at asks).1) (c.one.ensures.headline said b h)
 
-pub returns-in-List-clause-complete : goal.returns-in-List-clause-complete
-returns-in-List-clause-complete g c = λ said b h well q. c.one.ensures.complete said b h (quiet_alone q)
+pub returns-in-Query-clause-ends : goal.returns-in-Query-clause-ends
+returns-in-Query-clause-ends g c = rw (c.in-Query.is, sym c.step_of.ensures) c.one.ensures.ends
 
-pub returns-in-List-clause-refuses : goal.returns-in-List-clause-refuses
-returns-in-List-clause-refuses g c = λ text r q. c.one.ensures.refuses r.0 text r.1 r.2 (quiet_alone q)
+pub returns-in-Query-clause-complete : goal.returns-in-Query-clause-complete
+returns-in-Query-clause-complete g c = λ said b h well q. c.one.ensures.complete said b h (quiet_alone q)
 
-pub returns-in-List-clause-looks : goal.returns-in-List-clause-looks
-returns-in-List-clause-looks g c = rw c.in-List.is (λ said b h. c.one.ensures.reads said b h tt)
+pub returns-in-Query-clause-refuses : goal.returns-in-Query-clause-refuses
+returns-in-Query-clause-refuses g c = λ text r q. c.one.ensures.refuses r.0 text r.1 r.2 (quiet_alone q)
 
-pub returns-in-List-clause-cause : goal.returns-in-List-clause-cause
-returns-in-List-clause-cause g c = alone_with c.one.result _ _ _ c.one.ensures.alone c.one.ensures.cause
+pub returns-in-Query-clause-looks : goal.returns-in-Query-clause-looks
+returns-in-Query-clause-looks g c = rw (c.in-Query.is, sym c.step_of.ensures) (λ said b h.
+    c.one.ensures.reads said b h (subst (λ (line : Step). still b.state line) (sym c.step_of.ensures) (still_step b _)))
 
-pub returns-in-Info-clause-ends : goal.returns-in-Info-clause-ends
-returns-in-Info-clause-ends g c = rw c.in-Info.is c.one-in-Info.ensures.ends
-
-pub returns-in-Info-clause-complete : goal.returns-in-Info-clause-complete
-returns-in-Info-clause-complete g c = λ said b h well q. c.one-in-Info.ensures.complete said b h (quiet_alone q)
-
-pub returns-in-Info-clause-refuses : goal.returns-in-Info-clause-refuses
-returns-in-Info-clause-refuses g c = λ text r q. c.one-in-Info.ensures.refuses r.0 text r.1 r.2 (quiet_alone q)
-
-pub returns-in-Info-clause-looks : goal.returns-in-Info-clause-looks
-returns-in-Info-clause-looks g c = rw c.in-Info.is (λ said b h. c.one-in-Info.ensures.reads said b h tt)
-
-pub returns-in-Info-clause-cause : goal.returns-in-Info-clause-cause
-returns-in-Info-clause-cause g c = alone_with c.one-in-Info.result _ _ _ c.one-in-Info.ensures.alone c.one-in-Info.ensures.cause
+pub returns-in-Query-clause-cause : goal.returns-in-Query-clause-cause
+returns-in-Query-clause-cause g c = alone_with c.one.result _ _ _ c.one.ensures.alone c.one.ensures.cause
 
 pub returns-in-Edit-clause-ends : goal.returns-in-Edit-clause-ends
 returns-in-Edit-clause-ends g c = rw c.in-Edit.is (λ said b h cs end input told reads.
@@ -50,11 +45,8 @@ returns-in-Edit-clause-looks g c = rw c.in-Edit.is (λ said b h. tt)
 pub returns-in-Edit-clause-untaken : goal.returns-in-Edit-clause-untaken
 returns-in-Edit-clause-untaken g c = λ text r. c.edit.ensures.untaken r.0 text r.1 r.2
 
-pub returns-in-List-clause-alike : goal.returns-in-List-clause-alike
-returns-in-List-clause-alike g c = λ cs end said b asks h. c.one.ensures.alike said b h
-
-pub returns-in-Info-clause-alike : goal.returns-in-Info-clause-alike
-returns-in-Info-clause-alike g c = λ cs end said b asks h. c.one-in-Info.ensures.alike said b h
+pub returns-in-Query-clause-alike : goal.returns-in-Query-clause-alike
+returns-in-Query-clause-alike g c = λ cs end said b asks h. c.one.ensures.alike said b h
 
 pub returns-in-Edit-clause-alike : goal.returns-in-Edit-clause-alike
 returns-in-Edit-clause-alike g c = λ cs end said b asks h.

@@ -3,6 +3,7 @@ use Rattle.std.proofs.lemmas.Result.{on_ok_weaker}
 use Rattle.czi_report.specs.Text.{info_text}
 use Rattle.czi_report.proofs.Described.{details_state, lists_state}
 use Rattle.czi_editor.proofs.Editing.{both_ok, unasked_alike}
+use Rattle.czi_editor.proofs.Mapped.{maps_state}
 use Rattle.czi_editor.proofs.editor.ImageEditorEditor.perform.Goals as goal
 
 pub returns-in-Remove-clause-moments : goal.returns-in-Remove-clause-moments
@@ -28,8 +29,24 @@ returns-in-Info-clause-ok g c = rw c.in-Info.is (on_ok_weaker c.push_info.result
       h,
     )) c.push_info.ensures.said)
 
+pub returns-in-Map-clause-ok : goal.returns-in-Map-clause-ok
+returns-in-Map-clause-ok g c = rw c.in-Map.is (on_ok_weaker c.push_map.result (λ says said b h.
+    let x = c.args.self.now.engine.state in (
+      says ∙ ap (λ (z : List ℕ). c.args.reply.now.items ++ z) (maps_state b.start h.now.image.seen h.stands.live b.state x h.stands.has c.requires.ready.stands.own_map),
+      h,
+    )) c.push_map.ensures.said)
+
+pub returns-in-Check-clause-ok : goal.returns-in-Check-clause-ok
+returns-in-Check-clause-ok g c = rw c.in-Check.is (on_ok_weaker c.push_check.result (λ says said b h. (says b.state.layout h.stands.has.lies, h)) c.push_check.ensures.said)
+
 pub returns-in-List-clause-alike : goal.returns-in-List-clause-alike
 returns-in-List-clause-alike g c said b h = unasked_alike g.R.Rig g.met.R.Rig.only_now c.args.self.now.engine c.args.rig.now said b h
 
 pub returns-in-Info-clause-alike : goal.returns-in-Info-clause-alike
 returns-in-Info-clause-alike g c said b h = unasked_alike g.R.Rig g.met.R.Rig.only_now c.args.self.now.engine c.args.rig.now said b h
+
+pub returns-in-Map-clause-alike : goal.returns-in-Map-clause-alike
+returns-in-Map-clause-alike g c said b h = unasked_alike g.R.Rig g.met.R.Rig.only_now c.args.self.now.engine c.args.rig.now said b h
+
+pub returns-in-Check-clause-alike : goal.returns-in-Check-clause-alike
+returns-in-Check-clause-alike g c said b h = unasked_alike g.R.Rig g.met.R.Rig.only_now c.args.self.now.engine c.args.rig.now said b h
