@@ -1,6 +1,6 @@
 use czi_doc::{
     AttInfo, Bytes, Dim, Dims, EntryInfo, ItemFault, Key, TextFault, equal_keys, read_dims,
-    write_dims, write_name,
+    read_integer, read_natural, write_dims, write_name,
 };
 use std::alloc::{AllocError, Global};
 use std::process::Abort;
@@ -204,4 +204,36 @@ fn places_of_faults(rt: HostRuntime) {
 fn check_fault(rt: &impl Abort, alloc: Global, text: &str, place: usize) {
     let fault = read_dims(alloc, text.as_bytes()).err();
     assert!(rt; fault == Some(TextFault::Bad(place)), "{text}");
+}
+
+/// Texts, each with the natural below 2^64 and the integer of 32 bits that it is, if it is one.
+static NUMBERS: [(&str, Option<u64>, Option<i32>); 12] = [
+    ("0", Some(0), Some(0)),
+    ("7", Some(7), Some(7)),
+    ("-7", None, Some(-7)),
+    ("-0", None, None),
+    ("07", None, None),
+    ("+7", None, None),
+    ("", None, None),
+    ("7 ", None, None),
+    ("2147483648", Some(2_147_483_648), None),
+    ("-2147483648", None, Some(-2_147_483_648)),
+    (
+        "18446744073709551615",
+        Some(18_446_744_073_709_551_615),
+        None,
+    ),
+    ("18446744073709551616", None, None),
+];
+
+#[test]
+fn numbers_of_text(rt: HostRuntime) {
+    for (text, natural, integer) in NUMBERS.iter() {
+        check_number(&rt, text, *natural, *integer);
+    }
+}
+
+fn check_number(rt: &impl Abort, text: &str, natural: Option<u64>, integer: Option<i32>) {
+    assert!(rt; read_natural(text.as_bytes()) == natural, "{text}");
+    assert!(rt; read_integer(text.as_bytes()) == integer, "{text}");
 }
