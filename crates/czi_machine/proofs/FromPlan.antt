@@ -14,7 +14,7 @@ use Rattle.czi_format.specs.Span.{Span, end_of}
 use Rattle.czi_format.proofs.Local.{All-append}
 use Rattle.czi_machine.specs.Change.{Act, keep, omit, bring, brought, mapped, Setting, same, to, set_new, mapped_setting}
 use Rattle.czi_machine.specs.Cover.{between, cover}
-use Rattle.czi_machine.specs.Data.{directory_data, attdir_data, subblock_data, attachment_data, metadata_data}
+use Rattle.czi_format.specs.Data.{directory_data, attdir_data, subblock_data, attachment_data, metadata_data}
 use Rattle.czi_machine.specs.Edit.{DocumentEffect, after}
 use Rattle.czi_machine.specs.Laws.{Lies, LiesLoosely, Leads}
 use Rattle.czi_machine.specs.Planned.{Brings, Sets, BringsTile, BringsAttachment, BringsMetadata, ListsTiles, ListsAttachments, Plans}

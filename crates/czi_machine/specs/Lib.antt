@@ -13,7 +13,6 @@ pub mod Holes
 pub mod Written
 pub mod Patch
 pub mod Headline
-pub mod Data
 pub mod Turn
 pub mod Writes
 pub mod Puts

@@ -7,7 +7,7 @@ use Rattle.czi_format.specs.Layout.{Layout}
 use Rattle.czi_format.specs.Live.{Live, Directory, Tile, tile, AttItem, att_item, MetaItem, meta_item, subblock_of, attachment_of, metadata_of}
 use Rattle.czi_format.specs.Segment.{data_of, directory_id, subblock_id, attdir_id, attachment_id, metadata_id}
 use Rattle.czi_machine.specs.Change.{Act, keep, omit, bring, Setting, same, to}
-use Rattle.czi_machine.specs.Data.{directory_data, attdir_data, subblock_data, attachment_data, metadata_data}
+use Rattle.czi_format.specs.Data.{directory_data, attdir_data, subblock_data, attachment_data, metadata_data}
 use Rattle.czi_machine.specs.Edit.{DocumentEffect, after}
 use Rattle.czi_machine.specs.Laws.{Lies, LiesLoosely, Leads}
 use Rattle.czi_machine.specs.Patch.{PatchesDirectory, PatchesAttdir}
