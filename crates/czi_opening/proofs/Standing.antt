@@ -7,7 +7,7 @@ use Rattle.czi_rig.specs.declared.rig.Rig.{Ghosts}
 use Rattle.czi_rig.specs.declared.file.File.{File}
 use Rattle.czi_rig.specs.Disk.{Disk, Left, IsAtRest, at_rest}
 use Rattle.czi_rig.specs.State.{State, Instant, known, seen_of}
-use Rattle.czi_rig.specs.Moments.{Devices, devices, LeavesNow, Throughout, OnlyNow}
+use Rattle.czi_rig.specs.Moments.{Devices, devices, LeavesNow, Throughout, OnlyNow, FromSomeMoment}
 use Rattle.czi_rig.specs.Quiet.{AddsNothing}
 use Rattle.czi_rig.proofs.Files.{left_settled}
 use Rattle.czi_rig.proofs.Known.{is_honest}
@@ -20,7 +20,7 @@ use Rattle.czi_vault.proofs.Lists.{same_everywhere}
 use Rattle.czi_opening.specs.declared.opening.Opened.{Opened}
 use Rattle.czi_opening.specs.declared.error.OpenError.{OpenError}
 use Rattle.czi_opening.specs.declared.error.OpenError.TheVariants.{JournalVersion, BadJournal, ImageShort, ForeignJournal, Refused, ImageDevice, JournalDevice, Memory}
-use Rattle.czi_opening.specs.Course.{Stays, From, OpensFrom, StandsForItself}
+use Rattle.czi_opening.specs.Course.{Stays, OpensFrom, StandsForItself}
 use Rattle.czi_opening.specs.Steps.{CanBeOf}
 
 -- a reading and an image stand for one list of bytes at most
@@ -99,7 +99,7 @@ closing_stands all rest own i j o p =
     )
 
 module _ {D : Type 0} (rig : Ghosts D) where
-  pub opens_from : (old new : D) (P : Instant) (result : Result Opened OpenError) → From rig old new P → OpensFrom rig old new P result
+  pub opens_from : (old new : D) (P : Instant) (result : Result Opened OpenError) → FromSomeMoment rig old new P → OpensFrom rig old new P result
   opens_from old new P (Ok opened) f = f
   opens_from old new P (Err (JournalVersion version)) f = f
   opens_from old new P (Err (BadJournal place)) f = f
@@ -113,7 +113,7 @@ module _ {D : Type 0} (rig : Ghosts D) where
   -- both files were synced, and then opened
   pub from_synced : (old mid new : D) (all : Devices) → OnlyNow rig → devices (rig.state old) ≡ Some all → AddsNothing rig old mid → (rig.state old).moment ≤ (rig.state mid).moment
       → devices (rig.state mid) ≡ Some (record { image = at_rest all.image.seen; journal = at_rest all.journal.seen; said = all.said })
-      → Throughout rig mid new (Stays all) → From rig old new (Stays all)
+      → Throughout rig mid new (Stays all) → FromSomeMoment rig old new (Stays all)
   from_synced old mid new all only is adds later synced opened = record {
     then = mid;
     before = record { later = later; each = λ t i j o le left. inl (adds (is_honest (rig.state old) all is) t i j o le left) };
