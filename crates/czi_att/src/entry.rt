@@ -2,7 +2,7 @@
 
 ghost use Rattle.std.specs.Prelude.{◌≡◌, ◌++◌, List, ℕ, Some, is_some, option_map, bytes_eq, codes};
 ghost use Rattle.czi_format.specs.Bytes.{bytes_at};
-ghost use Rattle.czi_format.specs.Entry.{a1, a1_bytes};
+ghost use Rattle.czi_format.specs.Entry.{IsA1, a1, a1_bytes};
 ghost use Rattle.czi_doc.specs.View.{att_of};
 ghost use Rattle.czi_att.specs.View.{a1_of};
 
@@ -32,6 +32,7 @@ pub fn read_a1(bytes: &[u8; 128]) -> Option<(AttInfo, i64)>
 /// The 128 bytes of an attachment entry. Its reserved bytes and FilePart are 0.
 pub fn write_a1(info: &AttInfo, position: i64) -> [u8; 128]
     ensures written { result ≡ a1_bytes (record { info = att_of info.now; position = position }) }
+    ensures own { IsA1 (record { info = att_of info.now; position = position }) }
     ensures reads_back { (rest : List ℕ) → a1 (result ++ rest) ≡ Some (record { info = att_of info.now; position = position }) }
 {
     let mut bytes = [0u8; 128];

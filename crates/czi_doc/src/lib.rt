@@ -5,6 +5,7 @@ mod dimensions;
 mod fault;
 mod items;
 mod keys;
+mod limits;
 mod reading;
 mod writing;
 
@@ -12,5 +13,6 @@ pub use dimensions::{Dim, Dims, ItemFault};
 pub use fault::TextFault;
 pub use items::{AttInfo, Bytes, EntryInfo};
 pub use keys::{Key, equal_keys};
+pub use limits::{DATA_LIMIT, TEXT_LIMIT};
 pub use reading::{read_dims, read_integer, read_natural};
 pub use writing::{write_dims, write_name};

@@ -1,5 +1,5 @@
 -- What a region holds, and its pieces.
-use Rattle.std.specs.Prelude.{◌≡◌, ℕ, ◌+◌, ◌-◌, ◌≤◌, List, take, drop, length, vec_len}
+use Rattle.std.specs.Prelude.{◌≡◌, ℕ, ◌+◌, ◌-◌, ◌≤◌, List, ◌++◌, take, drop, length, vec_len}
 use Rattle.std.specs.Borrow.{Lends, MutBor, Fml, u8, Array}
 use Rattle.std.specs.Vec.{with_items_from}
 use Rattle.czi_region.specs.declared.block.Region.{Region}
@@ -30,6 +30,16 @@ pub record KeepsPiece (old new : Region) (latest p : Piece) : Type 0 where
 
 abbrev pub KeepsPieces : Region → Region → Piece → Type 0
 KeepsPieces old new latest = (p : Piece) → IsPiece old p → KeepsPiece old new latest p
+
+-- These bytes were put behind all that was put, and are this piece. The room fell by them, and earlier pieces stay.
+pub record PutsPiece (old new : Region) (piece : Piece) (bytes : List ℕ) : Type 0 where
+  pub put : bytes_put new ≡ bytes_put old ++ bytes
+  pub left : room new + length bytes ≡ room old
+  pub behind : piece.at ≡ length (bytes_put old)
+  pub long : piece.len ≡ length bytes
+  pub inside : IsPiece new piece
+  pub reads : bytes_of new piece ≡ bytes
+  pub others : KeepsPieces old new piece
 
 -- the region with other bytes in a piece
 abbrev pub with_piece : Region → Piece → List ℕ → Region

@@ -5,4 +5,4 @@ mod block;
 mod laws;
 
 pub use block::{Piece, Region};
-pub use laws::written_piece;
+pub use laws::{whole_piece, written_piece};

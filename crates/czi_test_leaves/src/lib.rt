@@ -25,3 +25,5 @@ mod regions;
 mod segments;
 #[cfg(test)]
 mod spans;
+#[cfg(test)]
+mod staged;

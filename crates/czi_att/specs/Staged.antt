@@ -1,0 +1,6 @@
+-- How long the data of a new attachment is.
+use Rattle.std.specs.Prelude.{ℕ, ◌+◌}
+
+-- how long the data is without padding, from the length of the attachment
+abbrev pub att_length : ℕ → ℕ
+att_length n = 256 + n
