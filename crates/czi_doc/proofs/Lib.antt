@@ -11,3 +11,4 @@ pub mod Breaks
 pub mod Begun
 pub mod FaultFirst
 pub mod Numbers
+pub mod Numbered

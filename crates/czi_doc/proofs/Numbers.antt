@@ -1,5 +1,5 @@
 -- A whole text is a number or none, and one number at most.
-use Rattle.std.proofs.Common.{◌≡◌, ℕ, ◌+◌, ◌<◌, ◌≤◌, ℤ, List, [], ◌∷◌, ◌++◌, take, length, true, false, ◌==◌, Result, Ok, Err, ◌⊎◌, refl, ap, sym, ◌∙◌, subst, arith, inl, inr, append-nil, take_all}
+use Rattle.std.proofs.Common.{◌≡◌, ℕ, ◌<◌, ◌≤◌, ℤ, List, [], ◌∷◌, ◌++◌, take, length, true, ◌==◌, Result, Ok, Err, ◌⊎◌, refl, ap, sym, ◌∙◌, subst, arith, inl, inr, append-nil, take_all}
 use Rattle.std.specs.Prelude.{FitsSigned, MatchOption, Option, Some, None, ◌^◌}
 use Rattle.std.specs.Str.Parse.{digits_value}
 use Rattle.std.specs.Int.{w32}
@@ -8,7 +8,7 @@ use mir.Val.{to_z, of_z}
 use Rattle.std.proofs.lemmas.Bool.{cases_Bool, eqb-true, eqb-false}
 use Rattle.czi_doc.specs.DimText.{IsNatural, IsNumber}
 use Rattle.czi_doc.specs.Reading.{Read, number_len, magnitude_at, number_at}
-use Rattle.czi_doc.proofs.Spelled.{NumberAt, number_found, natural_front, number_inside}
+use Rattle.czi_doc.proofs.Spelled.{NumberAt, number_found, natural_front}
 use Rattle.czi_doc.proofs.ReadAgain.{number_again, number_front}
 
 -- numbers without a sign

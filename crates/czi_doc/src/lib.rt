@@ -4,6 +4,7 @@
 mod dimensions;
 mod fault;
 mod items;
+mod key_number;
 mod keys;
 mod limits;
 mod reading;

@@ -28,7 +28,7 @@ all_same f [] = tt
 all_same f (x ∷ xs) = (refl, all_same f xs)
 
 -- what the items of a changed list show
-map_changed : {X Y : Type 0} (f : X → Y) (c : List (Act X)) (xs : List X) (ys : List Y) → map f xs ≡ ys → map f (changed c xs) ≡ changed (mapped f c) ys
+pub map_changed : {X Y : Type 0} (f : X → Y) (c : List (Act X)) (xs : List X) (ys : List Y) → map f xs ≡ ys → map f (changed c xs) ≡ changed (mapped f c) ys
 map_changed {Y = Y} f c xs ys is = map-changed f f c xs (all_same f (kept c xs)) ∙ ap (λ (zs : List Y). changed (mapped f c) zs) is
 
 map_set : {X Y : Type 0} (f : X → Y) (c : Setting X) (x : Option X) (y : Option Y) → option_map f x ≡ y → option_map f (set c x) ≡ set (mapped_setting f c) y

@@ -12,3 +12,4 @@ pub mod Placed
 pub mod Settled
 pub mod Changed
 pub mod Acting
+pub mod Summed

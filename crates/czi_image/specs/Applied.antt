@@ -62,6 +62,7 @@ pub record CanChange (c : Change) (extents : List Span) (n : ℕ) (x : Index) : 
 -- there is room for as many more items as there are acts, and for so many extents
 pub record HasRoom (c : Change) (count : ℕ) (x : Index) : Type 0 where
   pub tiles : vec_len x.tiles + length c.tiles.items ≤ vec_capacity x.tiles
+  pub numbers : vec_len x.summary.numbers + length c.tiles.items ≤ vec_capacity x.summary.numbers
   pub attachments : vec_len x.attachments + length c.attachments.items ≤ vec_capacity x.attachments
   pub extents : count ≤ vec_capacity x.extents
 

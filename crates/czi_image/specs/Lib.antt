@@ -7,6 +7,7 @@ pub mod Rules
 pub mod Inside
 pub mod Items
 pub mod Spans
+pub mod Summary
 pub mod Props
 pub mod Marked
 pub mod Holds

@@ -6,16 +6,18 @@ ghost use Rattle.czi_machine.specs.Turn.{pointer};
 ghost use Rattle.czi_num.specs.Span.{span_of};
 ghost use Rattle.czi_image.specs.Applied.{CanChange, HasRoom, IsChanged, IsSame, directory_after, pointer_after, walk_end_after};
 ghost use Rattle.czi_image.specs.Change.{AreWithin, act_of, acts_of, setting_of};
-ghost use Rattle.czi_image.specs.View.{meta_item_of};
+ghost use Rattle.czi_image.specs.Summary.{Sums};
+ghost use Rattle.czi_image.specs.View.{meta_item_of, tile_of};
 
 use crate::change::{Act, Change, DirectoryChange, Setting};
 use crate::index::Index;
-use crate::types::{DirItem, MetaItem};
+use crate::summary::Summary;
+use crate::types::{DirItem, MetaItem, Tile};
 use czi_num::{Span, round32};
 use std::alloc::AllocError;
 
 /// Does one act on a list that has room for one more item.
-fn act_on<T: Drop>(items: &mut Vec<T>, act: Act<T>)
+pub(crate) fn act_on<T: Drop>(items: &mut Vec<T>, act: Act<T>)
     requires within { AreWithin (act ∷ []) (length items.old.items) }
     requires room { vec_len items.old + 1 ≤ vec_capacity items.old }
     ensures items { items.new.items ≡ changed (act_of act) items.old.items }
@@ -39,6 +41,21 @@ fn act_all<T: Drop>(items: &mut Vec<T>, acts: Vec<Act<T>>)
 {
     for act in acts {
         act_on(items, act);
+    }
+}
+
+/// Does acts one after another on subblocks and on their summary, which have room for as many more.
+fn act_on_tiles(tiles: &mut Vec<Tile>, summary: &mut Summary, acts: Vec<Act<Tile>>)
+    requires within { AreWithin acts.items (length tiles.old.items) }
+    requires sums { Sums summary.old (map tile_of tiles.old.items) }
+    requires room { vec_len tiles.old + length acts.items ≤ vec_capacity tiles.old }
+    requires numbers { vec_len summary.old.numbers + length acts.items ≤ vec_capacity summary.old.numbers }
+    ensures items { tiles.new.items ≡ changed (acts_of acts.items) tiles.old.items }
+    ensures sums { Sums summary.new (map tile_of tiles.new.items) }
+{
+    for act in acts {
+        summary.act(tiles, &act);
+        act_on(tiles, act);
     }
 }
 
@@ -119,7 +136,7 @@ impl Index {
         self.walk_end = walk_end_after(self, image_len);
         self.length = image_len;
         set_directory(directory, &mut self.directory, &mut self.header.directory);
-        act_all(&mut self.tiles, tiles);
+        act_on_tiles(&mut self.tiles, &mut self.summary, tiles);
         set_directory(attdir, &mut self.attdir, &mut self.header.attachments);
         act_all(&mut self.attachments, attachments);
         set_metadata(metadata, &mut self.metadata, &mut self.header.metadata);
@@ -139,10 +156,12 @@ impl Index {
     ) -> Result<(), AllocError>
         ensures same { IsSame self.old self.new }
         ensures tiles { OnOk result (vec_len self.new.tiles + tiles ≤ vec_capacity self.new.tiles) }
+        ensures numbers { OnOk result (vec_len self.new.summary.numbers + tiles ≤ vec_capacity self.new.summary.numbers) }
         ensures attachments { OnOk result (vec_len self.new.attachments + attachments ≤ vec_capacity self.new.attachments) }
         ensures extents { OnOk result (vec_len self.new.extents + extents ≤ vec_capacity self.new.extents) }
     {
         self.tiles.reserve(tiles)?;
+        self.summary.reserve(tiles)?;
         self.attachments.reserve(attachments)?;
         self.extents.reserve(extents)?;
         Ok(())

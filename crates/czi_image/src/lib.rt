@@ -17,6 +17,7 @@ mod metadata;
 mod opening;
 mod reading;
 mod segment;
+mod summary;
 mod tiles;
 mod types;
 

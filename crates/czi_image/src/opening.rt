@@ -17,7 +17,8 @@ ghost use Rattle.czi_image.specs.Faults.{IsOnlyCalls, Refuses};
 ghost use Rattle.czi_image.specs.Holds.{Holds, Indexes, LiesAs};
 ghost use Rattle.czi_image.specs.Inside.{LiveWithin};
 ghost use Rattle.czi_image.specs.Spans.{AreFree};
-ghost use Rattle.czi_image.specs.View.{live_of};
+ghost use Rattle.czi_image.specs.Summary.{Sums};
+ghost use Rattle.czi_image.specs.View.{live_of, tile_of};
 
 use crate::fault::ImageFault;
 use crate::index::Index;
@@ -47,6 +48,7 @@ fn image_length<R: Rig>(rig: &mut R) -> Result<u64, ImageFault>
 fn index_of(live: Live, survey: Survey, length: u64) -> Index
     requires small { length ≤ 2 ^ 62 }
     requires within { LiveWithin length live }
+    requires summed { Sums live.summary (map tile_of live.tiles.items) }
     requires disjoint { AreDisjoint (map extent (segments (live_of live))) }
     requires free { AreFree length (map extent (segments (live_of live))) (map span_of survey.extents.items) }
     requires row { IsRow survey.walk.items }
@@ -71,6 +73,7 @@ fn index_of(live: Live, survey: Survey, length: u64) -> Index
         extents: survey.extents,
         unknown: survey.unknown,
         walk_end: survey.walk_end,
+        summary: live.summary,
     }
 }
 

@@ -17,6 +17,8 @@ ghost use Rattle.czi_image.specs.Devices.{image_device};
 ghost use Rattle.czi_image.specs.Faults.{Tells};
 ghost use Rattle.czi_image.specs.Inside.{IsWithin, TileEnds, TilesWithin};
 ghost use Rattle.czi_image.specs.Rules.{listed_rules, subblock_rules};
+ghost use Rattle.czi_image.specs.Props.{sums_prop};
+ghost use Rattle.czi_image.specs.Summary.{Sums};
 ghost use Rattle.czi_image.specs.View.{directory_of, tile_of, tiles_of};
 ghost use Rattle.czi_image.specs.Windows.{in_window};
 
@@ -24,6 +26,7 @@ use crate::directory::{Directory, read_directory};
 use crate::entries::{read_entries, take_entries};
 use crate::fault::ImageFault;
 use crate::segment::{read_front, sound_in};
+use crate::summary::Summary;
 use crate::types::Tile;
 use czi_body::read_sub_head;
 use czi_doc::EntryInfo;
@@ -36,11 +39,20 @@ use std::alloc::Global;
 /// Most entries that a directory may have.
 const MOST_ENTRIES: u32 = 1 << 20;
 
-/// The directory, if there is one, and the subblocks at its entries.
+/// The directory, if there is one, and the subblocks at its entries, with their summary.
 #[derive(Drop)]
 pub(crate) struct Tiles {
     pub(crate) directory: Option<Directory>,
     pub(crate) tiles: Vec<Tile>,
+    pub(crate) summary: Summary,
+}
+
+/// Subblocks, with their summary.
+#[derive(Drop)]
+struct Listed {
+    tiles: Vec<Tile>,
+    summary: Summary,
+    ghost summed: { Sums summary (map tile_of tiles.items) } by { sums_prop summary (map tile_of tiles.items) },
 }
 
 /// The subblock whose front is the window: its contents end within AllocatedSize.
@@ -96,26 +108,30 @@ fn read_each<R: Rig>(
     rig: &mut R,
     entries: Vec<Entry>,
     size: u64,
-) -> Result<Vec<Tile>, ImageFault>
+) -> Result<Listed, ImageFault>
     requires size { ForSome (seen_of (R.state rig.old) Image) (λ image. size ≡ length image) }
     requires small { size ≤ 2 ^ 62 }
-    ensures found { IfOk result (λ tiles. ForSome (seen_of (R.state rig.old) Image) (λ image. subblock_rules image (map entry_of entries.items) ≡ Ok (map tile_of tiles.items))) }
-    ensures inside { IfOk result (λ tiles. AllByRecursion (TileEnds size) tiles.items) }
-    ensures len { IfOk result (λ tiles. vec_len tiles ≡ vec_len entries) }
+    ensures found { IfOk result (λ listed. ForSome (seen_of (R.state rig.old) Image) (λ image. subblock_rules image (map entry_of entries.items) ≡ Ok (map tile_of listed.tiles.items))) }
+    ensures inside { IfOk result (λ listed. AllByRecursion (TileEnds size) listed.tiles.items) }
+    ensures len { IfOk result (λ listed. vec_len listed.tiles ≡ vec_len entries) }
     ensures refused { IfErr result (λ fault. ForSome (seen_of (R.state rig.old) Image) (λ image. Tells (subblock_rules image (map entry_of entries.items)) fault)) }
     ensures untouched { Untouched R.Rig rig.old rig.new }
     ensures cause { Faults (fault_at image_device result) (R.state rig.old) (R.state rig.new) }
 {
     let mut tiles = Vec::new(alloc);
+    let mut summary = Summary::new(alloc);
     for entry in entries {
         let position = entry.position;
         match read_tile(rig, entry, size) {
-            Ok(Some(tile)) => tiles.push(tile)?,
+            Ok(Some(tile)) => {
+                summary.push(&tile)?;
+                tiles.push(tile)?;
+            }
             Ok(None) => return Err(ImageFault::BadSegment(position)),
             Err(_) => return Err(ImageFault::Device),
         }
     }
-    Ok(tiles)
+    Ok(Listed { tiles, summary })
 }
 
 /// Reads a directory's entries, and then the subblocks at them.
@@ -124,13 +140,13 @@ fn read_listed<R: Rig>(
     rig: &mut R,
     directory: &Directory,
     size: u64,
-) -> Result<Vec<Tile>, ImageFault>
+) -> Result<Listed, ImageFault>
     requires size { ForSome (seen_of (R.state rig.old) Image) (λ image. size ≡ length image) }
     requires small { size ≤ 2 ^ 62 }
     requires within { IsWithin size directory.now }
-    ensures found { IfOk result (λ tiles. ForSome (seen_of (R.state rig.old) Image) (λ image. listed_rules image (Some (directory_of directory.now)) ≡ Ok (map tile_of tiles.items))) }
-    ensures inside { IfOk result (λ tiles. AllByRecursion (TileEnds size) tiles.items) }
-    ensures len { IfOk result (λ tiles. vec_len tiles ≡ directory.now.count) }
+    ensures found { IfOk result (λ listed. ForSome (seen_of (R.state rig.old) Image) (λ image. listed_rules image (Some (directory_of directory.now)) ≡ Ok (map tile_of listed.tiles.items))) }
+    ensures inside { IfOk result (λ listed. AllByRecursion (TileEnds size) listed.tiles.items) }
+    ensures len { IfOk result (λ listed. vec_len listed.tiles ≡ directory.now.count) }
     ensures refused { IfErr result (λ fault. ForSome (seen_of (R.state rig.old) Image) (λ image. Tells (listed_rules image (Some (directory_of directory.now))) fault)) }
     ensures untouched { Untouched R.Rig rig.old rig.new }
     ensures cause { Faults (fault_at image_device result) (R.state rig.old) (R.state rig.new) }
@@ -153,6 +169,7 @@ pub(crate) fn read_tiles<R: Rig>(
     requires small { size ≤ 2 ^ 62 }
     ensures found { IfOk result (λ t. ForSome (seen_of (R.state rig.old) Image) (λ image. tile_rules image position ≡ Ok (tiles_of t))) }
     ensures inside { IfOk result (TilesWithin size) }
+    ensures summed { IfOk result (λ t. Sums t.summary (map tile_of t.tiles.items)) }
     ensures refused { IfErr result (λ fault. ForSome (seen_of (R.state rig.old) Image) (λ image. Tells (tile_rules image position) fault)) }
     ensures untouched { Untouched R.Rig rig.old rig.new }
     ensures cause { Faults (fault_at image_device result) (R.state rig.old) (R.state rig.new) }
@@ -162,6 +179,7 @@ pub(crate) fn read_tiles<R: Rig>(
         Ok(Some(None)) => return Ok(Tiles {
             directory: None,
             tiles: Vec::new(alloc),
+            summary: Summary::new(alloc),
         }),
         Ok(None) => return Err(ImageFault::BadDirectory(position)),
         Err(_) => return Err(ImageFault::Device),
@@ -169,9 +187,10 @@ pub(crate) fn read_tiles<R: Rig>(
     if directory.count > MOST_ENTRIES {
         return Err(ImageFault::TooMany(position, u64::from(directory.count)));
     }
-    let tiles = read_listed(alloc, rig, &directory, size)?;
+    let listed = read_listed(alloc, rig, &directory, size)?;
     Ok(Tiles {
         directory: Some(directory),
-        tiles,
+        tiles: listed.tiles,
+        summary: listed.summary,
     })
 }

@@ -1,4 +1,4 @@
-use Rattle.std.proofs.Common.{◌≡◌, ◌<◌, length, arith, sym, ◌∙◌}
+use Rattle.std.proofs.Common.{arith, sym, ◌∙◌}
 use Rattle.std.proofs.lemmas.Bool.{eqb-false}
 use Rattle.czi_doc.proofs.Numbers.{no_number, no_number_behind, number_told}
 use Rattle.czi_doc.proofs.reading.read_integer.Goals as goal

@@ -1,6 +1,5 @@
-use Rattle.std.proofs.Common.{◌≡◌, ◌<◌, length, arith, sym, ◌∙◌, subst, inl, inr}
+use Rattle.std.proofs.Common.{◌≡◌, ◌<◌, length, arith, sym, ◌∙◌, inl, inr}
 use Rattle.czi_doc.specs.Reading.{number_len}
-use Rattle.std.specs.Str.Parse.{AllDigits}
 use Rattle.czi_doc.proofs.Numbers.{natural_whole, no_natural, natural_told}
 use Rattle.czi_doc.proofs.reading.read_natural.Goals as goal
 

@@ -4,6 +4,7 @@ use Rattle.czi_format.specs.Span.{Span, end_of, AreDisjoint}
 use Rattle.czi_num.specs.Span.{span_of}
 use Rattle.czi_walk.specs.View.{segment_of}
 use Rattle.czi_image.specs.Spans.{AreFree}
+use Rattle.czi_image.specs.Summary.{Sums}
 use Rattle.czi_image.proofs.Indexed.{inside_live}
 use Rattle.czi_image.proofs.Placed.{kept}
 use Rattle.std.proofs.lemmas.List.{length-map}
@@ -26,6 +27,12 @@ invariant_of-result-clause-free c =
     let k = kept c.args.live (map segment_of c.args.survey.walk.items) _ _ _ _ _ (rw c.deref.ensures.value at c.marked_directory-directory.ensures) (rw c.deref-2.ensures.value at c.marked_tiles-tiles.ensures)
     (rw c.deref-3.ensures.value at c.marked_directory-attdir.ensures) (rw c.deref-4.ensures.value at c.marked_attachments-attachments.ensures) (rw c.deref-5.ensures.value at c.marked_metadata-metadata.ensures) in
     subst (λ (live : List Span). AreFree c.args.length live (map span_of c.args.survey.extents.items)) (sym k.spans) c.requires.free
+
+pub invariant_of-result-clause-summed : goal.invariant_of-result-clause-summed
+invariant_of-result-clause-summed c =
+    let k = kept c.args.live (map segment_of c.args.survey.walk.items) _ _ _ _ _ (rw c.deref.ensures.value at c.marked_directory-directory.ensures) (rw c.deref-2.ensures.value at c.marked_tiles-tiles.ensures)
+    (rw c.deref-3.ensures.value at c.marked_directory-attdir.ensures) (rw c.deref-4.ensures.value at c.marked_attachments-attachments.ensures) (rw c.deref-5.ensures.value at c.marked_metadata-metadata.ensures) in
+    subst (Sums c.args.live.summary) (sym k.tiles) c.requires.summed
 
 pub returns-clause-holds : goal.returns-clause-holds
 returns-clause-holds c =

@@ -35,18 +35,18 @@ returns-then-directory-gt-MOST_ENTRIES-clause-refused g c = λ image is.
     ∙ (ap (λ (z : ℤ). let r : Result Tiles Refusal = Err (too_many z c.in-Ok-Some-Some.directory.count) in r) (sym place)
     ∙ ap (λ (n : ℕ). let r : Result Tiles Refusal = Err (too_many (to_z w64 (of_z w64 c.args.position)) n) in r) (sym count))
 
-pub returns-in_err-tiles-clause-refused : goal.returns-in_err-tiles-clause-refused
-returns-in_err-tiles-clause-refused g c =
+pub returns-in_err-listed-clause-refused : goal.returns-in_err-listed-clause-refused
+returns-in_err-listed-clause-refused g c =
     let p = err_from_is_err_and c.from_residual.result c.from_residual.ensures.1 in
     rw (p.1, p.2) (λ image is.
     let place : to_z w64 (of_z w64 c.args.position) ≡ c.args.position = search rules in
     let found = (rw (c.in-Ok-Some-Some.field-0-is, c.in-Ok-Some-Some.field-0-0-is, c.in-Ok-Some-Some.directory-is) at c.in-Ok-Some-Some.ensures.found) image is in
-    tells_same _ _ c.in_err-tiles.field-0.0 (stages.some_tiles image c.args.position (directory_of c.in-Ok-Some-Some.directory) (found ∙ ap (λ (z : ℤ). none_or z (in_segment image directory_id z directory)) place) (omega arith))
-    (tells_first _ _ c.in_err-tiles.field-0.0 ((c.in_err-tiles.ensures {u = tt}).refused image (seen_same _ _ Image image c.read_directory.ensures.untouched.same is))))
+    tells_same _ _ c.in_err-listed.field-0.0 (stages.some_tiles image c.args.position (directory_of c.in-Ok-Some-Some.directory) (found ∙ ap (λ (z : ℤ). none_or z (in_segment image directory_id z directory)) place) (omega arith))
+    (tells_first _ _ c.in_err-listed.field-0.0 ((c.in_err-listed.ensures {u = tt}).refused image (seen_same _ _ Image image c.read_directory.ensures.untouched.same is))))
 
 pub returns-clause-found : goal.returns-clause-found
 returns-clause-found g c = λ image is.
     let place : to_z w64 (of_z w64 c.args.position) ≡ c.args.position = search rules in
     let found = (rw (c.in-Ok-Some-Some.field-0-is, c.in-Ok-Some-Some.field-0-0-is, c.in-Ok-Some-Some.directory-is) at c.in-Ok-Some-Some.ensures.found) image is in
     stages.some_tiles image c.args.position (directory_of c.in-Ok-Some-Some.directory) (found ∙ ap (λ (z : ℤ). none_or z (in_segment image directory_id z directory)) place) (omega arith)
-    ∙ then_ok _ _ _ _ ((c.in_ok-tiles.ensures {u = tt}).found image (seen_same _ _ Image image c.read_directory.ensures.untouched.same is)) refl
+    ∙ then_ok _ _ _ _ ((c.in_ok-listed.ensures {u = tt}).found image (seen_same _ _ Image image c.read_directory.ensures.untouched.same is)) refl
