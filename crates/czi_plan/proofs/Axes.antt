@@ -25,7 +25,7 @@ use Rattle.czi_spans.proofs.Sorting.{IsOrder, ascending_sorted, same_elements}
 use Rattle.czi_machine.proofs.Tiled.{All-weaken}
 use Rattle.czi_plan.specs.Search.{has_axis}
 
-axes_same : (xs ys : List Axis) → same_axes xs ys ≡ true → xs ≡ ys
+pub axes_same : (xs ys : List Axis) → same_axes xs ys ≡ true → xs ≡ ys
 axes_same [] [] e = refl
 axes_same [] (y ∷ ys) e = cc
 axes_same (x ∷ xs) [] e = cc

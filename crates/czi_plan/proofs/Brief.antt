@@ -2,7 +2,6 @@
 use Rattle.std.proofs.Common.{◌≡◌, ℕ, ◌+◌, ◌-◌, ◌*◌, ◌≤◌, List, [], ◌∷◌, ◌++◌, filter, length, Bool, true, false, cond, not, ◌==◌, nat_lt, refl, ap, arith, inl, inr}
 use Rattle.std.specs.List.{AllByRecursion, flat_map, list_any}
 use Rattle.std.proofs.lemmas.Bool.{cases_Bool}
-use Rattle.std.proofs.lemmas.List.{length-map}
 use Rattle.czi_format.specs.Layout.{Place}
 use Rattle.czi_format.specs.Span.{Span, end_of, meets, span_le, inserted, sorted}
 use Rattle.czi_format.specs.Space.{from_to, left_of, together, without, with_next, with_freed, with_all_freed, deleted_after, same_span}
@@ -14,7 +13,6 @@ use Rattle.czi_plan.specs.Geometry.{AreUsed}
 use Rattle.czi_plan.specs.Marks.{is_new}
 use Rattle.czi_plan.proofs.Order.{untouched}
 use Rattle.czi_machine.proofs.Tiled.{All-weaken}
-use Rattle.std.proofs.lemmas.List.Sums.{length-filter, count_by-le-length}
 
 -- how many of some spans pass a test
 abbrev pub times : (Span → Bool) → List Span → ℕ
@@ -112,5 +110,7 @@ few_extents n used freed before rise all =
     every [] = refl
     every (x ∷ xs) = omega (arith, every xs)
 
-pub spans_fewer : (q : Place → Bool) (G : List Place) → length (spans_of (filter q G)) ≤ length G
-spans_fewer q G = omega (arith, length-map (filter q G) (λ (p : Place). p.span), length-filter q G, count_by-le-length q G)
+-- places that pass a test, and those that don't
+pub spans_both : (q : Place → Bool) (G : List Place) → length (spans_of (filter q G)) + length (spans_of (filter (λ p. not (q p)) G)) ≡ length G
+spans_both q [] = refl
+spans_both q (g ∷ G) = elim (cases_Bool (q g)) [ inl e ↦ rw e (omega (arith, spans_both q G)) | inr e ↦ rw e (omega (arith, spans_both q G)) ]

@@ -1,5 +1,5 @@
 -- What the pieces of a plan put, and the directory of subblocks after they were written, as the machine asks for it.
-use Rattle.std.proofs.Common.{◌≡◌, ◌⊎◌, ℕ, zero, suc, ◌+◌, ◌-◌, ◌<◌, ◌≤◌, ◌^◌, ℤ, pos, negsuc, List, [], ◌∷◌, ◌++◌, map, filter, length, sum, true, false, Bool, not, Option, Some, None, option_map, option_to_list, refl, ap, sym, ◌∙◌, subst, arith, inl, inr, append-nil, length-append}
+use Rattle.std.proofs.Common.{◌≡◌, ◌⊎◌, ℕ, zero, suc, ◌+◌, ◌-◌, ◌<◌, ◌≤◌, ◌^◌, ℤ, pos, negsuc, List, [], ◌∷◌, ◌++◌, map, filter, length, sum, true, false, Bool, not, Option, Some, None, option_map, option_to_list, refl, ap, sym, ◌∙◌, subst, arith, inl, inr, length-append}
 use Rattle.std.specs.Bool.{⊤}
 use Rattle.std.specs.List.{AllByRecursion, flat_map, list_any}
 use Rattle.std.proofs.lemmas.Bool.{and_parts, cases_Bool, cases_lt, leb-true}
@@ -25,7 +25,7 @@ use Rattle.czi_image.specs.declared.types.DirItem.{DirItem}
 use Rattle.czi_links.specs.Record.{Bytes}
 use Rattle.czi_machine.specs.Change.{set_new}
 use Rattle.czi_machine.specs.Cover.{between, cover}
-use Rattle.czi_machine.specs.Data.{directory_data}
+use Rattle.czi_format.specs.Data.{directory_data}
 use Rattle.czi_machine.specs.Patch.{IsAmong, PatchPuts, total}
 use Rattle.czi_machine.specs.Planned.{ListsTiles}
 use Rattle.czi_machine.specs.Writes.{PutsDeleted, PutsPointer, deleted_segment, head}
@@ -33,7 +33,7 @@ use Rattle.czi_machine.specs.Written.{Piece, Puts, byte_of, piece_span}
 use Rattle.czi_machine.proofs.Clear.{heads_within}
 use Rattle.czi_machine.proofs.Cover.{cover-append, cover-sorted}
 use Rattle.czi_machine.proofs.LiveStand.{bytes_same}
-use Rattle.czi_machine.proofs.Over.{apart_put, put_within}
+use Rattle.czi_machine.proofs.Over.{apart_put, none_put, put_within}
 use Rattle.czi_machine.proofs.Patched.{entry_codec, length-written}
 use Rattle.czi_machine.proofs.PatchPieces.{entries_patch}
 use Rattle.czi_machine.proofs.Placing.{covers_own}
@@ -41,22 +41,14 @@ use Rattle.czi_machine.proofs.Steady.{on_all}
 use Rattle.czi_machine.proofs.Tiled.{All-filter, All-map, All-weaken}
 use Rattle.czi_spans.proofs.Sorting.{all_moved}
 use Rattle.czi_plan.specs.Directory.{directory_size, need_of}
-use Rattle.czi_plan.specs.Geometry.{AreParts}
+use Rattle.czi_plan.specs.Geometry.{AreParts, IsLong}
 use Rattle.czi_plan.specs.Listing.{IsPlace}
 use Rattle.czi_plan.specs.Marks.{AreInOrder, byte_span, deleted_mark, is_new, some_mark, wanted}
 use Rattle.czi_plan.specs.Pieces.{piece_of}
-use Rattle.czi_plan.proofs.Entries.{size_of_both}
-use Rattle.czi_plan.proofs.Linking.{AreWhole, OwnMarks, cover-fewer, is_32, low_none, marks_by, some_cover, spans_are, wanted_cover, writes_by}
+use Rattle.czi_plan.proofs.Entries.{size_in_part}
+use Rattle.czi_plan.proofs.Linking.{AreWhole, OwnMarks, both_cover, cover-fewer, is_32, low_none, marks_by, some_cover, spans_are, wanted_cover, writes_by}
 use Rattle.czi_plan.proofs.Order.{at_place}
-use Rattle.czi_plan.proofs.Removing.{fit_place, kept_of, pointers_of, used_by, written_dir}
-
--- nothing is written where no piece is
-not_put : (pieces : List Piece) (q : ℕ) → cover (map piece_span pieces) q ≡ 0 → byte_of pieces q ≡ None
-not_put pieces q none = on_byte (byte_of pieces q) refl
-  where
-    on_byte : (o : Option ℕ) → byte_of pieces q ≡ o → o ≡ None
-    on_byte None e = refl
-    on_byte (Some b) e = absurd (omega (arith, put_within pieces q b e, none))
+use Rattle.czi_plan.proofs.Parts.{fit_place, kept_of, pointers_of, used_by, written_dir}
 
 each_among : (xs : List Piece) → AllByRecursion (λ p. IsAmong p xs) xs
 each_among [] = tt
@@ -115,15 +107,16 @@ all_by P p zs (x ∷ xs) a b long f = elim (cases_Bool (p x)) [
   | inr e ↦ (f x e long.0 (let here = rw e at b in here.0), all_by P p zs xs (rw e at a) (let here = rw e at b in here.1) long.1 f)
 ]
 
--- The directory of a plan: what becomes of it, and what the plan's pieces are.
-pub record WritesDir (x : Index) (was : Option DirItem) (c : DirectoryChange) (front behind : List Entry) (space : Space) (n top : ℕ) (freed dead es : List Span) (pieces : List Piece) : Type 0 where
-  pub place : IsPlace x was (directory_size (front ++ behind)) (sum (map entry_len behind)) space c
-  pub parts : AreParts n top (used_by c) freed dead (kept_of c was) es
-  pub whole : AreWhole c front behind
-  pub own : OwnMarks top was c front behind
+-- The directory of a plan: what becomes of it, what lies before it, and what the plan's pieces are.
+pub record WritesDir (x : Index) (was : Option DirItem) (c : DirectoryChange) (front middle back : List Entry) (space : Space) (n top : ℕ) (used : List Span) (ws own : List Bytes) (freed dead es : List Span) (pieces : List Piece) : Type 0 where
+  pub place : IsPlace x was (directory_size (front ++ (middle ++ back))) (sum (map entry_len middle)) space c
+  pub parts : AreParts n top (used ++ used_by c) freed dead (kept_of c was) es
+  pub whole : AreWhole c front middle back
+  pub before : OwnMarks top 1 32 ws own used
+  pub listing : OwnMarks top 3 131072 (writes_by c (front ++ (middle ++ back))) (marks_by was c front middle back) (pointers_of c ++ written_dir c was)
   pub once : (q : ℕ) → cover (map piece_span pieces) q ≤ 1
-  pub written : AreWritten pieces (writes_by c (front ++ behind)) (marks_by was c front behind) (deleted_after (used_by c) freed es) dead es
-  pub few : length (front ++ behind) ≤ 2 ^ 20
+  pub written : AreWritten pieces (ws ++ writes_by c (front ++ (middle ++ back))) (own ++ marks_by was c front middle back) (deleted_after (used ++ used_by c) freed es) dead es
+  pub few : length (front ++ (middle ++ back)) ≤ 2 ^ 20
 
 pub pointer_of : (q : ℕ) (c : DirectoryChange) → cover (pointers_of c) q ≤ between 84 92 q
 pointer_of q Kept = omega arith
@@ -150,35 +143,48 @@ heads_fewer : (p : Span → Bool) (xs : List Span) (q : ℕ) → cover (map head
 heads_fewer p [] q = omega arith
 heads_fewer p (x ∷ xs) q = elim (cases_Bool (p x)) [ inl e ↦ rw e (omega (arith, heads_fewer p xs q)) | inr e ↦ rw e (omega (arith, heads_fewer p xs q)) ]
 
-module _ {x : Index} {was : Option DirItem} {c : DirectoryChange} {front behind : List Entry} {space : Space} {n top : ℕ} {freed dead es : List Span} {pieces : List Piece} (w : WritesDir x was c front behind space n top freed dead es pieces) where
+module _ {x : Index} {was : Option DirItem} {c : DirectoryChange} {front middle back : List Entry} {space : Space} {n top : ℕ} {used : List Span} {ws own : List Bytes} {freed dead es : List Span} {pieces : List Piece}
+    (w : WritesDir x was c front middle back space n top used ws own freed dead es pieces) where
   abbrev after : List Span
-  after = deleted_after (used_by c) freed es
+  after = deleted_after (used ++ used_by c) freed es
+
+  abbrev wrote : List Bytes
+  wrote = ws ++ writes_by c (front ++ (middle ++ back))
+
+  abbrev marked : List Bytes
+  marked = own ++ marks_by was c front middle back
 
   -- the headers lie in DELETED extents and dead spans
   heads_in : (q : ℕ) → (cover (map head (filter (is_new es) after)) q ≤ cover (filter (is_new es) after) q) × (cover (map head dead) q ≤ cover dead q)
   heads_in q = (heads_within (filter (is_new es) after) q (All-filter _ (is_new es) after (is_32 top after w.parts.after_long)), heads_within dead q (is_32 top dead w.parts.dead_long))
 
+  own_covers : (q : ℕ) → (cover (map byte_span wrote) q + cover (map byte_span marked) q ≤ cover used q + (cover (pointers_of c) q + cover (written_dir c was) q)) × (cover (used ++ used_by c) q ≡ cover used q + cover (used_by c) q)
+  own_covers q = (
+    omega (arith, both_cover ws (writes_by c (front ++ (middle ++ back))) q, both_cover own (marks_by was c front middle back) q, w.before.covers q, w.listing.covers q, cover-append (pointers_of c) (written_dir c was) q),
+    cover-append used (used_by c) q,
+  )
+
   -- of the file header nothing but the pointer is written
   pub header_clear : (q : ℕ) → q < 112 → cover (pointers_of c) q ≡ 0 → byte_of pieces q ≡ None
-  header_clear q low none = not_put pieces q (omega (
+  header_clear q low none = none_put pieces q (omega (
     arith,
     w.written.covers q,
-    w.own.covers q,
+    own_covers q,
     heads_in q,
     cover-fewer (is_new es) after q,
     none,
     dir_within c was q,
-    low_none top q (used_by c) w.parts.used_long low,
+    low_none top q (used ++ used_by c) w.parts.used_long low,
     low_none top q (kept_of c was) w.parts.kept_long low,
     low_none top q dead w.parts.dead_long low,
     low_none top q after w.parts.after_long low,
   ))
 
-  -- the DELETED extents and the dead spans have no place in common with what is written of the directory
-  dir_apart : (q : ℕ) → cover (map byte_span (writes_by c (front ++ behind))) q + cover (map byte_span (marks_by was c front behind)) q + (cover after q + cover dead q) ≤ 1
+  -- the DELETED extents and the dead spans have no place in common with what else is written
+  dir_apart : (q : ℕ) → cover (map byte_span wrote) q + cover (map byte_span marked) q + (cover after q + cover dead q) ≤ 1
   dir_apart q = elim (cases_lt q 112) [
-    | inl h ↦ omega (arith, at_place, w.own.covers q, pointer_of q c, dir_within c was q, low_none top q _ w.parts.used_long h, low_none top q _ w.parts.kept_long h, low_none top q dead w.parts.dead_long h, low_none top q after w.parts.after_long h)
-    | inr h ↦ omega (arith, w.own.covers q, pointer_none q c (omega (arith, h)), dir_within c was q, w.parts.once q)
+    | inl h ↦ omega (arith, at_place, own_covers q, pointer_of q c, dir_within c was q, low_none top q _ w.parts.used_long h, low_none top q _ w.parts.kept_long h, low_none top q dead w.parts.dead_long h, low_none top q after w.parts.after_long h)
+    | inr h ↦ omega (arith, own_covers q, pointer_none q c (omega (arith, h)), dir_within c was q, w.parts.once q)
   ]
 
   -- each DELETED extent has its header: it was written, or it stood there and nothing is written into it
@@ -187,31 +193,40 @@ module _ {x : Index} {was : Option DirItem} {c : DirectoryChange} {front behind 
       let O : List Span = filter (λ e. not (is_new es e)) after in
       let stood : (e : Span) → is_new es e ≡ false → 32 ≤ e.len → ((q : ℕ) → between e.at (end_of e) q ≤ cover O q) → PutsDeleted es pieces e = λ e old long h. inl (
         elim (cases_Bool (list_any (same_span e) es)) [ inl k ↦ k | inr k ↦ absurd (let clash = rw k at old in cc (clash)) ],
-        λ q low high. not_put pieces q (omega (arith, w.written.covers q, heads_in q, dir_apart q, split_cover (is_new es) after q, h q, at_place, low, high, long)),
+        λ q low high. none_put pieces q (omega (arith, w.written.covers q, heads_in q, dir_apart q, split_cover (is_new es) after q, h q, at_place, low, high, long)),
       ) in
       all_by (PutsDeleted es pieces) (is_new es) O after (All-weaken (PutsHead pieces) (PutsDeleted es pieces) (λ e h. inr h) _ w.written.puts_new) (covers_own O) (is_32 top after w.parts.after_long) stood
 
   -- the pieces lie where a command may write
-  pub dir_writable : (gone : List Span) (make : Span → Directory) (rest : List Segment) (q b : ℕ) → ((d : DirItem) → extent (make (directory_span d)).segment ≡ directory_span d) → cover (map head gone) q ≡ cover (map head dead) q → byte_of pieces q ≡ Some b
+  pub dir_writable : (gone : List Span) (make : Span → Directory) (rest : List Segment) (q b : ℕ) → ((d : DirItem) → extent (make (directory_span d)).segment ≡ directory_span d) → cover (map head gone) q ≡ cover (map head dead) q
+      → cover used q ≤ cover (map extent rest) q → byte_of pieces q ≡ Some b
       → 1 ≤ cover (record { at = 84; len = 16 } ∷ record { at = 104; len = 8 } ∷ (map extent (option_to_list (option_map (λ (d : Directory). d.segment) (set_new (directory_set make c was))) ++ rest) ++ map head (after ++ gone))) q
-  dir_writable gone make rest q b own same put =
+  dir_writable gone make rest q b lies same brought put =
       let D : List Segment = option_to_list (option_map (λ (d : Directory). d.segment) (set_new (directory_set make c was))) in
       omega (
         arith,
         put_within pieces q b put,
         w.written.covers q,
-        w.own.covers q,
+        own_covers q,
         pointer_of q c,
         at_place,
         heads_fewer (is_new es) after q,
         same,
+        brought,
         cover-append (map extent (D ++ rest)) (map head (after ++ gone)) q,
         ap (λ l. cover l q) (map-append extent D rest),
         cover-append (map extent D) (map extent rest) q,
-        ap (λ l. cover l q) (set_spans make c was own),
+        ap (λ l. cover l q) (set_spans make c was lies),
         ap (λ l. cover l q) (map-append head after gone),
         cover-append (map head after) (map head gone) q,
       )
+
+  -- what the pieces put of what lies before the directory, and of the directory
+  pub before_put : AllByRecursion (IsPut pieces) ws × AllByRecursion (IsPut pieces) own
+  before_put = ((All-append (IsPut pieces) ws (writes_by c (front ++ (middle ++ back))) w.written.puts_writes).0, (All-append (IsPut pieces) own (marks_by was c front middle back) w.written.puts_own).0)
+
+  listing_put : AllByRecursion (IsPut pieces) (writes_by c (front ++ (middle ++ back))) × AllByRecursion (IsPut pieces) (marks_by was c front middle back)
+  listing_put = ((All-append (IsPut pieces) ws (writes_by c (front ++ (middle ++ back))) w.written.puts_writes).1, (All-append (IsPut pieces) own (marks_by was c front middle back) w.written.puts_own).1)
 
 pub total_is : (es : List Entry) → total entry_len es ≡ sum (map entry_len es)
 total_is [] = refl
@@ -259,20 +274,37 @@ some_among : (pieces : List Piece) (place : ℕ) (bytes : List ℕ) → AllByRec
 some_among pieces place [] all = inl refl
 some_among pieces place (b ∷ bytes) all = inr all.0.0
 
-pub patch_put : {x : Index} (d : DirItem) (front behind : List Entry) {space : Space} {n top : ℕ} {freed dead es : List Span} {pieces : List Piece} → WritesDir x (Some d) Patched front behind space n top freed dead es pieces
-    → PatchPuts 128 entry_len entry_bytes pieces (directory_in (directory_span d) (front ++ behind)) front behind
-patch_put d front behind {freed = freed} {es = es} {pieces = pieces} w =
-    let bytes : List ℕ = flat_map entry_bytes behind in
-    let room : 32 + directory_size (front ++ behind) ≤ d.span.len = leb-true _ _ (and_parts _ _ w.place).0 in
-    let used : directory_size (front ++ behind) ≡ 128 + total entry_len (front ++ behind) = omega (arith, total_is (front ++ behind)) in
+pub patch_put : {x : Index} (d : DirItem) (front middle back : List Entry) {space : Space} {n top : ℕ} {used : List Span} {ws own : List Bytes} {freed dead es : List Span} {pieces : List Piece} → WritesDir x (Some d) Patched front middle back space n top used ws own freed dead es pieces
+    → PatchPuts 128 entry_len entry_bytes pieces (directory_in (directory_span d) (front ++ (middle ++ back))) front middle
+patch_put d front middle back {used = used} {ws = ws} {own = own} {freed = freed} {es = es} {pieces = pieces} w =
+    let all : List Entry = front ++ (middle ++ back) in
+    let bytes : List ℕ = flat_map entry_bytes middle in
+    let room : 32 + directory_size all ≤ d.span.len = leb-true _ _ (and_parts _ _ w.place).0 in
+    let size : directory_size all ≡ 128 + total entry_len all = omega (arith, total_is all) in
     let from : d.span.at + 32 + directory_size front ≡ d.span.at + 32 + 128 + total entry_len front = omega (arith, total_is front) in
-    let put = w.written.puts_own in
-    entries_patch pieces (directory_in (directory_span d) (front ++ behind)) front behind w.whole.0 (omega (arith, room, size_of_both front behind, total_is front, total_is behind)) (record {
+    let put = (listing_put w).1 in
+    entries_patch pieces (directory_in (directory_span d) all) front middle w.whole.0 (omega (arith, room, size_in_part front middle back, total_is front, total_is middle)) (record {
       once = w.once;
-      used = subst (λ (k : ℕ). IsAmong (record { place = d.span.at + 24; bytes = i64_bytes (pos k) }) pieces) used put.0.0;
+      used = subst (λ (k : ℕ). IsAmong (record { place = d.span.at + 24; bytes = i64_bytes (pos k) }) pieces) size put.0.0;
       count = put.1.0.0;
       range = subst (λ (k : ℕ). (bytes ≡ []) ⊎ IsAmong (record { place = k; bytes = bytes }) pieces) from (some_among pieces (d.span.at + 32 + directory_size front) bytes put.1.1);
-      alone = λ q low high. omega (arith, at_place, w.written.covers q, some_cover (d.span.at + 32 + directory_size front) bytes q, from, heads_in w q, cover-fewer (is_new es) (deleted_after [] freed es) q, w.parts.once q, low, high, d.long);
+      alone = λ q low high. omega (
+        arith,
+        at_place,
+        w.written.covers q,
+        both_cover ws [] q,
+        both_cover own (marks_by (Some d) Patched front middle back) q,
+        w.before.covers q,
+        cover-append used [] q,
+        some_cover (d.span.at + 32 + directory_size front) bytes q,
+        from,
+        heads_in w q,
+        cover-fewer (is_new es) (deleted_after (used ++ []) freed es) q,
+        w.parts.once q,
+        low,
+        high,
+        d.long,
+      );
     })
 
 some_span : (a b : Span) (o p : Option Span) → o ≡ Some a → p ≡ Some b → o ≡ p → a ≡ b
@@ -283,15 +315,16 @@ length-directory_data : (es : List Entry) → AllByRecursion IsEntry es → leng
 length-directory_data es all = omega (arith, length-append (flat_map entry_bytes es) [], length-written entry entry_len entry_bytes IsEntry entry_codec es all)
 
 -- A directory as the machine asks for it: it is changed in place, or it is new.
-pub dir_listed : {x : Index} (was : Option DirItem) (c : DirectoryChange) (front behind before : List Entry) {space : Space} {n top : ℕ} {freed dead es : List Span} {pieces : List Piece} (z : ℤ) (own : Option Directory) (ts ts' : List FormatTile)
-    → WritesDir x was c front behind space n top freed dead es pieces → map (λ (t : FormatTile). t.entry) ts ≡ front ++ before → map (λ (t : FormatTile). t.entry) ts' ≡ front ++ behind → lies_at was ≡ extent_of own → PointsTo z own
-    → ListsTiles pieces (directory_set (λ s. directory_in s (front ++ behind)) c was) own ts ts'
-dir_listed was Kept front behind before z own ts ts' w were are lies points = absurd w.place
-dir_listed None Patched front behind before z own ts ts' w were are lies points = absurd (let clash : false ≡ true = w.place in cc (clash))
-dir_listed (Some d) Patched front behind before z None ts ts' w were are lies points = cc (lies)
-dir_listed (Some d) Patched front behind before {pieces = pieces} z (Some own) ts ts' w were are lies points =
-    let put = patch_put d front behind w in
-    let room : 32 + directory_size (front ++ behind) ≤ d.span.len = leb-true _ _ (and_parts _ _ w.place).0 in
+pub dir_listed : {x : Index} (was : Option DirItem) (c : DirectoryChange) (front before middle back : List Entry) {space : Space} {n top : ℕ} {used : List Span} {ws marks : List Bytes} {freed dead es : List Span} {pieces : List Piece} (z : ℤ) (own : Option Directory) (ts ts' : List FormatTile)
+    → WritesDir x was c front middle back space n top used ws marks freed dead es pieces → map (λ (t : FormatTile). t.entry) ts ≡ front ++ (before ++ back) → map (λ (t : FormatTile). t.entry) ts' ≡ front ++ (middle ++ back)
+    → (back ≡ []) ⊎ (sum (map entry_len before) ≡ sum (map entry_len middle)) → lies_at was ≡ extent_of own → PointsTo z own
+    → ListsTiles pieces (directory_set (λ s. directory_in s (front ++ (middle ++ back))) c was) own ts ts'
+dir_listed was Kept front before middle back z own ts ts' w were are stay lies points = absurd w.place
+dir_listed None Patched front before middle back z own ts ts' w were are stay lies points = absurd (let clash : false ≡ true = w.place in cc (clash))
+dir_listed (Some d) Patched front before middle back z None ts ts' w were are stay lies points = cc (lies)
+dir_listed (Some d) Patched front before middle back {pieces = pieces} z (Some own) ts ts' w were are stay lies points =
+    let put = patch_put d front middle back w in
+    let room : 32 + directory_size (front ++ (middle ++ back)) ≤ d.span.len = leb-true _ _ (and_parts _ _ w.place).0 in
     let same : directory_span d ≡ extent own.segment = some_span (directory_span d) (extent own.segment) (lies_at (Some d)) (extent_of (Some own)) refl refl lies in
     inr (
       omega (arith, ap (length {A = Entry}) are, w.few),
@@ -301,14 +334,14 @@ dir_listed (Some d) Patched front behind before {pieces = pieces} z (Some own) t
         allocated = omega (arith, ap (λ (s : Span). s.len) same);
         used = refl;
         count = refl;
-        room = omega (arith, room, total_is (front ++ behind));
+        room = omega (arith, room, total_is (front ++ (middle ++ back)));
         front = front;
         before = before;
-        middle = behind;
-        back = [];
-        were = ap (λ l. front ++ l) (sym (append-nil before));
-        are = ap (λ l. front ++ l) (sym (append-nil behind));
-        stay = inl refl;
+        middle = middle;
+        back = back;
+        were = refl;
+        are = refl;
+        stay = elim stay [ inl e ↦ inl e | inr e ↦ inr (total_is before ∙ (e ∙ sym (total_is middle))) ];
         entries = w.whole.0;
         puts_used = put.puts_used;
         puts_count = put.puts_count;
@@ -318,31 +351,34 @@ dir_listed (Some d) Patched front behind before {pieces = pieces} z (Some own) t
         clear_back = put.clear_back;
       }),
     )
-dir_listed {x = x} was (New d) front behind before {space = space} {pieces = pieces} z own ts ts' w were are lies points =
-    let long : 32 + directory_size (front ++ behind) ≤ d.span.len = new_room x was (directory_size (front ++ behind)) (sum (map entry_len behind)) space d w.place in
-    let used : directory_size (front ++ behind) ≡ 128 + total entry_len (front ++ behind) = omega (arith, total_is (front ++ behind)) in
+dir_listed {x = x} was (New d) front before middle back {space = space} {pieces = pieces} z own ts ts' w were are stay lies points =
+    let all : List Entry = front ++ (middle ++ back) in
+    let long : 32 + directory_size all ≤ d.span.len = new_room x was (directory_size all) (sum (map entry_len middle)) space d w.place in
+    let used : directory_size all ≡ 128 + total entry_len all = omega (arith, total_is all) in
+    let put = listing_put w in
     inl (rw are (record {
       id = refl;
-      used = sym (length-directory_data (front ++ behind) w.whole.0);
+      used = sym (length-directory_data all w.whole.0);
       room = omega (arith, long);
       count = refl;
       few = w.few;
       entries = w.whole.0;
-      padding = d.span.len - 32 - directory_size (front ++ behind);
+      padding = d.span.len - 32 - directory_size all;
       puts = record {
-        head = subst (λ (k : ℕ). Puts pieces d.span.at (header_bytes (record { at = d.span.at; id = directory_id; allocated = d.span.len - 32; used = k }))) used w.written.puts_own.1.0.1;
-        contents = w.written.puts_writes.0.1;
+        head = subst (λ (k : ℕ). Puts pieces d.span.at (header_bytes (record { at = d.span.at; id = directory_id; allocated = d.span.len - 32; used = k }))) used put.1.1.0.1;
+        contents = put.0.0.1;
         whole = w.whole.1;
       };
     }))
 
 -- the pointer of the file header
-pub dir_pointer : {x : Index} (was : Option DirItem) (c : DirectoryChange) (front behind : List Entry) {space : Space} {n top : ℕ} {freed dead es : List Span} {pieces : List Piece} (z : ℤ) (own : Option Directory)
-    → WritesDir x was c front behind space n top freed dead es pieces → lies_at was ≡ extent_of own → PointsTo z own → PutsPointer (λ (d : Directory). d.segment) pieces 84 z (directory_set (λ s. directory_in s (front ++ behind)) c was)
-dir_pointer was Kept front behind z own w lies points = absurd w.place
-dir_pointer None Patched front behind z own w lies points = absurd (let clash : false ≡ true = w.place in cc (clash))
-dir_pointer (Some d) Patched front behind z None w lies points = cc (lies)
-dir_pointer (Some d) Patched front behind z (Some own) w lies points =
+pub dir_pointer : {x : Index} (was : Option DirItem) (c : DirectoryChange) (front middle back : List Entry) {space : Space} {n top : ℕ} {used : List Span} {ws marks : List Bytes} {freed dead es : List Span} {pieces : List Piece} (z : ℤ) (own : Option Directory)
+    → WritesDir x was c front middle back space n top used ws marks freed dead es pieces → lies_at was ≡ extent_of own → PointsTo z own → PutsPointer (λ (d : Directory). d.segment) pieces 84 z (directory_set (λ s. directory_in s (front ++ (middle ++ back))) c was)
+dir_pointer was Kept front middle back z own w lies points = absurd w.place
+dir_pointer None Patched front middle back z own w lies points = absurd (let clash : false ≡ true = w.place in cc (clash))
+dir_pointer (Some d) Patched front middle back z None w lies points = cc (lies)
+dir_pointer (Some d) Patched front middle back z (Some own) w lies points =
     let same : directory_span d ≡ extent own.segment = some_span (directory_span d) (extent own.segment) (lies_at (Some d)) (extent_of (Some own)) refl refl lies in
     (inr (λ q low high. header_clear w q (omega (arith, high)) refl, points.0 ∙ ap (λ (s : Span). pos s.at) (sym same)), omega (arith, w.parts.kept_long.0.far), omega (arith, d.ends))
-dir_pointer was (New d) front behind z own w lies points = (inl w.written.puts_own.0.1, omega (arith, w.parts.used_long.0.far), omega (arith, d.ends))
+dir_pointer was (New d) front middle back {top = top} {used = used} z own w lies points =
+    let long = All-append (IsLong top) used (directory_span d ∷ []) w.parts.used_long in (inl (listing_put w).1.0.1, omega (arith, long.1.0.far), omega (arith, d.ends))

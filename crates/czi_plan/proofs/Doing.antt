@@ -1,44 +1,43 @@
--- What a removal needs, where everything lies after its plan and what leaves, and what the plan is to the machine.
-use Rattle.std.proofs.Common.{◌≡◌, ℕ, zero, suc, [], ◌∷◌, true, false, Option, Some, None, option_map, Ok, refl, ap, sym, ◌∙◌, subst, ◌+◌, ◌<◌, ◌≤◌, List, ◌++◌, map, take, drop, length, sum, ◌&&◌, ◌||◌, nat_le, option_to_list, Err, append-nil, arith, filter, ◌==◌, nat_lt, if◌then◌else◌, not, Bool}
+-- Where everything lies after the plan of an act on the subblocks and what leaves, and what the plan is to the machine.
+use Rattle.std.proofs.Common.{◌≡◌, ℕ, zero, suc, [], ◌∷◌, true, false, Option, Some, None, option_map, Ok, refl, ap, sym, ◌∙◌, subst, ◌+◌, ◌<◌, ◌≤◌, List, ◌++◌, map, length, sum, ◌&&◌, ◌||◌, option_to_list, append-nil, arith, filter, ◌==◌, nat_lt, if◌then◌else◌, not, Bool, inl}
 use Rattle.std.specs.List.{AllByRecursion, list_any}
-use Rattle.std.proofs.lemmas.List.{length-map, map-append, take-append-drop}
+use Rattle.std.proofs.lemmas.List.{length-map, map-append}
 use Rattle.std.specs.Bool.{⊤}
 use Rattle.czi_format.specs.Layout.{Layout, Place}
-use Rattle.czi_format.specs.Live.{Directory, Live, subblock_of, AttItem as FormatAttItem, MetaItem as FormatMetaItem, Tile as FormatTile}
+use Rattle.czi_format.specs.Live.{Directory, Live, AttItem as FormatAttItem, MetaItem as FormatMetaItem, Tile as FormatTile}
 use Rattle.czi_format.specs.Segment.{extent, Segment}
-use Rattle.czi_format.specs.Space.{Fit, Space, fit, use_span, Full, deleted_after, with_all_freed, without, same_span}
+use Rattle.czi_format.specs.Space.{Space, fit, use_span, deleted_after, with_all_freed, without, same_span, use_all}
 use Rattle.czi_format.specs.Span.{Span, round32, span_le, sorted, end_of}
 use Rattle.czi_image.specs.Applied.{place_after, walks_on, layout_after}
-use Rattle.czi_image.specs.Change.{directory_set, acts_of, setting_of, a1s_after, attdir_in, directory_in, entries_after, turn_of}
+use Rattle.czi_image.specs.Change.{directory_set, acts_of, setting_of, a1s_after, attdir_in, directory_in, entries_after, turn_of, AreWithin, act_of}
 use Rattle.czi_image.specs.Holds.{directory_place, tile_place, LiesAs, att_item_place, meta_item_place}
-use Rattle.czi_image.specs.Spans.{directory_span, att_item_span, meta_item_span, tile_span, header_span}
+use Rattle.czi_image.specs.Spans.{directory_span, tile_span, header_span}
 use Rattle.czi_image.specs.declared.change.DirectoryChange.{DirectoryChange}
 use Rattle.czi_image.specs.declared.change.DirectoryChange.TheVariants.{Kept, Patched, New}
 use Rattle.czi_image.specs.declared.index.Index.{Index}
 use Rattle.czi_image.specs.declared.types.DirItem.{DirItem}
-use Rattle.czi_machine.specs.Change.{Act, mapped, out, brought, changed, Change, mapped_setting, omitted, set, keep, omit, bring, kept, Setting, same, to, set_kept, set_new, set_omitted}
+use Rattle.czi_machine.specs.Change.{Act, mapped, out, brought, changed, Change, mapped_setting, omitted, set, keep, omit, bring, kept, Setting, same, to, set_kept, set_new, set_omitted, into, past, put}
 use Rattle.czi_machine.specs.Grouped.{fit_all}
-use Rattle.czi_machine.specs.InOrder.{StaysOrNew, directory_needs, directory_spans, attachments_stay, needs_of, tiles_stay, LiesInOrder}
-use Rattle.czi_machine.specs.Places.{new_place, Asked, attdir_need, entry_sizes, fresh, in_place, patched_len, stays, subblock_need, Fitted, Placed, can_be_used, directory_need, edit_next, freeing, laid, live_places, space_of, walk_goes_on}
-use Rattle.czi_machine.specs.Planned.{Brings, BringsAttachment, BringsMetadata, BringsTile, ListsAttachments, ListsTiles, Plans, Sets}
+use Rattle.czi_machine.specs.InOrder.{StaysOrNew, directory_spans, needs_of, tiles_stay, LiesInOrder}
+use Rattle.czi_machine.specs.Places.{new_place, entry_sizes, fresh, subblock_need, Fitted, Placed, can_be_used, directory_need, edit_next, freeing, laid, live_places, space_of, walk_goes_on}
+use Rattle.czi_machine.specs.Planned.{Brings as Both, BringsAttachment, BringsMetadata, BringsTile, ListsAttachments, ListsTiles, Plans, Sets}
 use Rattle.czi_machine.specs.Table.{directory_laid, directory_left, changes, AreApart, fit_brought, subblocks_in_place, subblocks_laid}
-use Rattle.czi_format.specs.Document.{Document, Subblock, Attachment, Metadata}
-use Rattle.czi_format.specs.Entry.{entry_len, Entry}
+use Rattle.czi_format.specs.Document.{Subblock, Attachment, Metadata}
+use Rattle.czi_format.specs.Entry.{Entry}
 use Rattle.czi_image.specs.View.{tile_of, att_item_of, meta_item_of}
 use Rattle.czi_image.specs.declared.types.Tile.{Tile}
 use Rattle.czi_machine.specs.Cover.{cover, between}
 use Rattle.czi_machine.specs.Edit.{in_subblocks}
-use Rattle.czi_machine.specs.State.{State, spans_of, items_of, not_among}
-use Rattle.czi_machine.proofs.Changing.{changed-out}
+use Rattle.czi_machine.specs.State.{State, spans_of, items_of, not_among, item_places, item_spans}
+use Rattle.czi_machine.proofs.Changing.{map-changed}
 use Rattle.czi_machine.proofs.Cover.{cover-append}
-use Rattle.czi_machine.proofs.Omitted.{all_stay_same, Parted, parted_both, parted_directory, parted_list, parted_set}
-use Rattle.czi_machine.proofs.Ranges.{range_out}
+use Rattle.czi_machine.proofs.Omitted.{Parted, parted_both, parted_directory, parted_list, parted_set}
 use Rattle.czi_machine.proofs.TableSubblocks.{change_moves, new_never, subblocks_row}
 use Rattle.czi_space.specs.State.{MapState, space_of as space_in}
 use Rattle.czi_image.specs.declared.change.Setting.TheVariants.{Same}
 use Rattle.czi_image.specs.declared.types.AttItem.{AttItem}
 use Rattle.czi_image.specs.declared.types.MetaItem.{MetaItem}
-use Rattle.czi_machine.proofs.Tiled.{All-both, All-weaken, All-map}
+use Rattle.czi_machine.proofs.Tiled.{All-both, All-weaken, All-map, map-All}
 use Rattle.czi_image.specs.declared.change.Change.{Change as CodeChange}
 use Rattle.czi_machine.specs.Writes.{head, PutsDeleted, PutsPointer, WritesAround, dead}
 use Rattle.czi_machine.proofs.Leaving.{among_before, among_behind, none_among, same_self, among_more}
@@ -54,212 +53,24 @@ use Rattle.czi_machine.specs.Turn.{Turn, turned}
 use Rattle.czi_machine.specs.Written.{Piece}
 use Rattle.czi_machine.proofs.Clear.{map-map}
 use Rattle.czi_region.specs.declared.block.Region.{Region}
-use Rattle.czi_plan.specs.Directory.{need_of, entries_of}
+use Rattle.czi_plan.specs.Directory.{need_of}
 use Rattle.czi_plan.specs.Listing.{IsPlace, fits_in_place}
-use Rattle.czi_plan.specs.Plan.{left_directory, freed_of, usable_of, used_of, dead_of, left_places, IsPlan, extents_after}
-use Rattle.czi_plan.proofs.Removing.{length_by, used_by, live_once, live_of, spans_split, free_once}
+use Rattle.czi_plan.specs.Plan.{left_directory, freed_of, usable_of, used_of, dead_of, left_places, IsPlan, extents_after, left_items}
 use Rattle.czi_plan.specs.Conditions.{IsMapOf, LiesIn}
-use Rattle.czi_plan.specs.Does.{HasNoPlan, layout_by, Does}
-use Rattle.czi_plan.specs.Placing.{IsFull}
-use Rattle.czi_plan.specs.Removal.{left_range, left_size}
-use Rattle.czi_plan.specs.declared.plan.PlanFault.{PlanFault}
-use Rattle.czi_plan.specs.declared.plan.PlanFault.TheVariants.{Full as Filled, Memory}
+use Rattle.czi_plan.specs.Does.{layout_by, Does}
 use Rattle.czi_plan.specs.declared.plan.EditPlan.{EditPlan}
 use Rattle.czi_plan.proofs.Order.{sorted_again}
-use Rattle.czi_plan.specs.Pieces.{piece_of, pieces_of}
-use Rattle.czi_plan.proofs.Removed.{omitted_one, Removes, left_entries}
-use Rattle.czi_plan.proofs.Directing.{dir_listed, dir_pointer, dir_writable, deleted_put, header_clear, pointer_none, points_to, PointsTo, PutsHead, directory_in_own}
-use Rattle.czi_plan.proofs.Linking.{writes_by}
-
--- what is left of the space
-abbrev pub space_by : DirectoryChange → Space → Space
-space_by Kept space = space
-space_by Patched space = space
-space_by (New d) space = use_span space (directory_span d)
-
-pub space_length : (c : DirectoryChange) (space : Space) → (space_by c space).length ≡ length_by c space.length
-space_length Kept space = refl
-space_length Patched space = refl
-space_length (New d) space = refl
-
--- its need fits where the plan has it
-one_fits : (space : Space) (n : ℕ) (f : Fit) → fit space n ≡ Ok f → fit_all space (n ∷ []) ≡ Ok (record { spans = f.span ∷ []; space = f.space })
-one_fits space n f e = rw e refl
-
-pub directory_fits : (x : Index) (old : Option DirItem) (size range : ℕ) (space : Space) (c : DirectoryChange) → IsPlace x old size range space c
-    → fit_all space (directory_needs (fits_in_place old size range) (need_of size)) ≡ Ok (record { spans = used_by c; space = space_by c space })
-directory_fits x old size range space Kept place = absurd place
-directory_fits x old size range space Patched place = ap (λ z. fit_all space (directory_needs z (need_of size))) place
-directory_fits x old size range space (New d) place =
-    ap (λ z. fit_all space (directory_needs z (need_of size))) place.0 ∙ one_fits space (need_of size) (record { span = directory_span d; space = use_span space (directory_span d) }) place.1
-
--- it stays or is new, as the machine has it
-pub stays_or_new : (make : Span → Directory) (x : Index) (old : Option DirItem) (size range : ℕ) (space : Space) (c : DirectoryChange) → ((i : DirItem) → extent (make (directory_span i)).segment ≡ directory_span i)
-    → IsPlace x old size range space c → StaysOrNew (fits_in_place old size range) (option_map directory_place old) (directory_set make c old)
-stays_or_new make x old size range space Kept own place = absurd place
-stays_or_new make x None size range space Patched own place = absurd (let clash : false ≡ true = place in cc (clash))
-stays_or_new make x (Some d) size range space Patched own place =
-    subst (λ b. StaysOrNew b (option_map directory_place (Some d)) (directory_set make Patched (Some d))) (sym place) (ap (λ (s : Span). let o : Option Span = Some s in o) (sym (own d)))
-stays_or_new make x old size range space (New d) own place = subst (λ b. StaysOrNew b (option_map directory_place old) (directory_set make (New d) old)) (sym place.0) tt
-
-pub directory_spans_are : (make : Span → Directory) (x : Index) (old : Option DirItem) (size range : ℕ) (space : Space) (c : DirectoryChange) → ((i : DirItem) → extent (make (directory_span i)).segment ≡ directory_span i)
-    → IsPlace x old size range space c → used_by c ≡ directory_spans (fits_in_place old size range) (directory_set make c old)
-directory_spans_are make x old size range space Kept own place = absurd place
-directory_spans_are make x old size range space Patched own place = ap (λ b. directory_spans b (directory_set make Patched old)) (sym place)
-directory_spans_are make x old size range space (New d) own place =
-    ap (λ (s : Span). s ∷ []) (sym (own d)) ∙ ap (λ b. directory_spans b (directory_set make (New d) old)) (sym place.0)
-
--- and lies there
-pub directory_lies : (x : Index) (l : Layout) (old : Option DirItem) (size range : ℕ) (space : Space) (c : DirectoryChange) → ((d : DirItem) → c ≡ New d → directory_place d ≡ new_place l (directory_span d))
-    → IsPlace x old size range space c
-    → directory_laid l space (option_map directory_place old) (fits_in_place old size range) (need_of size) ≡ Ok (record { places = place_after c (option_map directory_place old); back = []; used = used_by c; space = space_by c space })
-directory_lies x l old size range space Kept walked place = absurd place
-directory_lies x l old size range space Patched walked place = ap (λ b. directory_laid l space (option_map directory_place old) b (need_of size)) place
-directory_lies x l old size range space (New d) walked place =
-    let new : directory_laid l space (option_map directory_place old) false (need_of size) ≡ Ok (record { places = Some (new_place l (directory_span d)); back = []; used = directory_span d ∷ []; space = use_span space (directory_span d) })
-    = let e = place.1 in rw e refl in
-    ap (λ b. directory_laid l space (option_map directory_place old) b (need_of size)) place.0
-    ∙ (new ∙ ap (λ (p : Place). Ok (record { places = Some p; back = []; used = directory_span d ∷ []; space = use_span space (directory_span d) })) (sym (walked d refl)))
-
-pub left_by : (x : Index) (old : Option DirItem) (size range : ℕ) (space : Space) (c : DirectoryChange) → IsPlace x old size range space c → directory_left (fits_in_place old size range) (option_map directory_place old) ≡ left_directory c old
-left_by x old size range space Kept place = absurd place
-left_by x old size range space Patched place = ap (λ b. directory_left b (option_map directory_place old)) place
-left_by x old size range space (New d) place = ap (λ b. directory_left b (option_map directory_place old)) place.0 ∙ all_of old
-  where
-    all_of : (o : Option DirItem) → directory_left false (option_map directory_place o) ≡ left_directory (New d) o
-    all_of None = refl
-    all_of (Some e) = refl
-
--- what leaves a list brings nothing
-pub mapped_out : {X Y : Type 0} (f : X → Y) (i : ℕ) → mapped f (out i) ≡ out i
-mapped_out f zero = refl
-mapped_out f (suc i) = ap (λ l. Rattle.czi_machine.specs.Change.keep ∷ l) (mapped_out f i)
-
-pub brings_out : {X Y : Type 0} (P : X → Y → Type 0) (i : ℕ) → Brings P (out i) (out i)
-brings_out P zero = tt
-brings_out P (suc i) = brings_out P i
-
-pub brought_out : (X : Type 0) (i : ℕ) → brought (out {X = X} i) ≡ []
-brought_out X zero = refl
-brought_out X (suc i) = brought_out X i
-
-pub changes_out : (X : Type 0) (i n : ℕ) → i < n → changes (out {X = X} i) n ≡ true
-changes_out X i zero h = absurd (omega arith)
-changes_out X zero (suc n) h = refl
-changes_out X (suc i) (suc n) h = changes_out X i n (omega arith)
-
--- the test of the machine is that of the code
-same_test : (o : Option DirItem) (ps : List Place) (asked : List Asked) (before after' : List ℕ) (size range : ℕ) → 128 + sum after' ≡ size → patched_len ps asked before after' ≡ range
-    → in_place (option_map directory_place o) 128 ps asked before after' ≡ fits_in_place o size range
-unfolding in_place
-same_test None ps asked before after' size range a b = refl
-same_test (Some d) ps asked before after' size range a b =
-    let long : 32 + 128 + sum after' ≡ 32 + size = omega (arith, a) in
-    λ j. nat_le (long j) d.span.len && nat_le (b j) 65536
-
-pub stays_where : (s : State) (o : Option DirItem) (i size range : ℕ) → s.layout.directory ≡ option_map directory_place o → i < length s.layout.subblocks
-    → 128 + sum (entry_sizes (changed (out i) s.document.subblocks)) ≡ size
-    → patched_len s.layout.subblocks (changed (mapped (λ x. fresh (subblock_need x)) (out i)) (map stays s.layout.subblocks)) (entry_sizes s.document.subblocks) (entry_sizes (changed (out i) s.document.subblocks)) ≡ range
-    → tiles_stay s (in_subblocks (out i)) ≡ fits_in_place o size range
-stays_where s o i size range dir h long short =
-    let moved = change_moves (λ x. fresh (subblock_need x)) (out {X = Subblock} i) s.layout.subblocks (new_never subblock_need) (changes_out Subblock i (length s.layout.subblocks) h) in
-    (λ j. moved j || in_place (dir j) 128 s.layout.subblocks (changed (mapped (λ x. fresh (subblock_need x)) (out i)) (map stays s.layout.subblocks)) (entry_sizes s.document.subblocks) (entry_sizes (changed (out i) s.document.subblocks)))
-    ∙ same_test o s.layout.subblocks _ _ _ size range long short
-
-pub others_stay : (s : State) (i : ℕ) → attachments_stay s (in_subblocks (out i)) ≡ true
-others_stay s i = let same = all_stay_same s.layout.attachments in rw same refl
-
--- how long the entries are
-sizes_of : (image : List ℕ) (ts : List Tile) → entry_sizes (map (subblock_of image) (map tile_of ts)) ≡ map entry_len (entries_of ts)
-sizes_of image [] = refl
-sizes_of image (t ∷ ts) = ap (λ l. entry_len (tile_of t).entry ∷ l) (sizes_of image ts)
-
-pub out_map : {X Y : Type 0} (f : X → Y) (i : ℕ) (xs : List X) → changed (out i) (map f xs) ≡ map f (changed (out i) xs)
-out_map f zero [] = refl
-out_map f zero (x ∷ xs) = refl
-out_map f (suc i) [] = out_map f i []
-out_map f (suc i) (x ∷ xs) = ap (λ l. f x ∷ l) (out_map f i xs)
-
-pub one_more : (i : ℕ) → i + 1 ≡ suc i
-one_more i = omega arith
-
-left_entries_are : (i : ℕ) (ts : List Tile) → map entry_len (entries_of (changed (out i) ts)) ≡ map entry_len (entries_of (take i ts) ++ entries_of (drop (i + 1) ts))
-left_entries_are i ts =
-    ap (λ l. map entry_len (entries_of l)) (changed-out i ts) ∙ ap (map entry_len) (map-append (λ (t : Tile). (tile_of t).entry) (take i ts) (drop (suc i) ts) ∙ ap (λ n. entries_of (take i ts) ++ entries_of (drop n ts)) (sym (one_more i)))
-
-drop_left : (i : ℕ) (ts : List Tile) → i < length ts → drop i (map entry_len (entries_of (changed (out i) ts))) ≡ map entry_len (entries_of (drop (i + 1) ts))
-drop_left i [] h = absurd (omega arith)
-drop_left zero (t ∷ ts) h = refl
-drop_left (suc i) (t ∷ ts) h = let more : suc (i + 1) ≡ suc i + 1 = omega arith in drop_left i ts (omega arith) ∙ ap (λ n. map entry_len (entries_of (drop n (t ∷ ts)))) more
-
-out_length : (i : ℕ) (ts : List Tile) → i < length ts → suc (length (map entry_len (entries_of (changed (out i) ts)))) ≡ length ts
-out_length i [] h = absurd (omega arith)
-out_length zero (t ∷ ts) h = omega (arith, length-map (entries_of ts) entry_len, length-map ts (λ (u : Tile). (tile_of u).entry))
-out_length (suc i) (t ∷ ts) h = omega (arith, out_length i ts (omega arith))
-
-list_spans : {C : Type 0} (place : C → Place) (xs : List C) → spans_of (map place xs) ≡ map (λ c. (place c).span) xs
-list_spans place [] = refl
-list_spans place (x ∷ xs) = ap (λ l. (place x).span ∷ l) (list_spans place xs)
-
-list_all : {C : Type 0} (place : C → Place) (xs : List C) → ((c : C) → 0 < (place c).span.len) → AllByRecursion (λ (p : Place). 0 < p.span.len) (map place xs)
-list_all place [] f = tt
-list_all place (x ∷ xs) f = (f x, list_all place xs f)
-
-tiles_once : (x : Index) (m : MapState) (q : ℕ) → IsMapOf x m → cover (spans_of (map tile_place x.tiles.items)) q ≤ 1
-tiles_once x m q is =
-    let D : List Span = option_to_list (option_map directory_span x.directory) in
-    let R : List Span = option_to_list (option_map directory_span x.attdir) ++ (map att_item_span x.attachments.items ++ option_to_list (option_map meta_item_span x.metadata)) in
-    omega (arith, ap (λ l. cover l q) (list_spans tile_place x.tiles.items), live_once x m q is, cover-append D (map tile_span x.tiles.items ++ R) q, cover-append (map tile_span x.tiles.items) R q)
-
--- What a removal asks of a state.
-pub record Asks (x : Index) (s : State) (i : ℕ) : Type 0 where
-  pub stays : tiles_stay s (in_subblocks (out i)) ≡ fits_in_place x.directory (left_size i x) (left_range i x)
-  pub size : 128 + sum (entry_sizes (changed (out i) s.document.subblocks)) ≡ left_size i x
-  pub needs : needs_of s (in_subblocks (out i)) ≡ directory_needs (fits_in_place x.directory (left_size i x) (left_range i x)) (need_of (left_size i x))
-
-pub asks : (image : List ℕ) (live : Live) (s : State) (x : Index) (m : MapState) (i : ℕ) → LiesIn image live s x m → IsMapOf x m → i < length x.tiles.items → Asks x s i
-asks image live s x m i lies is h =
-    let blocks : s.document.subblocks ≡ map (subblock_of image) (map tile_of x.tiles.items) = ap (λ (d : Document). d.subblocks) lies.loosely.document ∙ ap (map (subblock_of image)) (sym lies.holds.tiles) in
-    let before : entry_sizes s.document.subblocks ≡ map entry_len (entries_of x.tiles.items) = ap entry_sizes blocks ∙ sizes_of image x.tiles.items in
-    let left : entry_sizes (changed (out i) s.document.subblocks) ≡ map entry_len (entries_of (changed (out i) x.tiles.items))
-    = ap (λ l. entry_sizes (changed (out i) l)) blocks ∙ (ap entry_sizes (out_map (subblock_of image) i (map tile_of x.tiles.items) ∙ ap (map (subblock_of image)) (out_map tile_of i x.tiles.items)) ∙ sizes_of image (changed (out i) x.tiles.items)) in
-    let size : 128 + sum (entry_sizes (changed (out i) s.document.subblocks)) ≡ left_size i x = ap (λ l. 128 + sum l) (left ∙ left_entries_are i x.tiles.items) in
-    let places : map tile_place x.tiles.items ≡ s.layout.subblocks = lies.lies.subblocks in
-    let inside : i < length s.layout.subblocks = omega (arith, ap (length {A = Place}) places, length-map x.tiles.items tile_place, h) in
-    let short : patched_len s.layout.subblocks (changed (mapped (λ x. fresh (subblock_need x)) (out i)) (map stays s.layout.subblocks)) (entry_sizes s.document.subblocks) (entry_sizes (changed (out i) s.document.subblocks)) ≡ left_range i x
-    = range_out (λ (z : Subblock). fresh (subblock_need z)) i s.layout.subblocks (entry_sizes s.document.subblocks) (entry_sizes (changed (out i) s.document.subblocks)) inside
-    (omega (arith, ap (length {A = ℕ}) left, out_length i x.tiles.items h, ap (length {A = Place}) places, length-map x.tiles.items tile_place))
-    (omega (arith, ap (length {A = ℕ}) before, length-map (entries_of x.tiles.items) entry_len, length-map x.tiles.items (λ (u : Tile). (tile_of u).entry), ap (length {A = Place}) places, length-map x.tiles.items tile_place))
-    (subst (AllByRecursion (λ (p : Place). 0 < p.span.len)) places (list_all tile_place x.tiles.items (λ t. omega (arith, t.extent)))) (λ q. subst (λ (l : List Place). cover (spans_of l) q ≤ 1) places (tiles_once x m q is))
-    ∙ (ap (λ l. sum (drop i l)) left ∙ ap sum (drop_left i x.tiles.items h)) in
-    let where' : tiles_stay s (in_subblocks (out i)) ≡ fits_in_place x.directory (left_size i x) (left_range i x) = stays_where s x.directory i (left_size i x) (left_range i x) (sym lies.lies.directory) inside size short in
-    let none : brought (out {X = Subblock} i) ≡ [] = brought_out Subblock i in
-    let nothing : attachments_stay s (in_subblocks (out i)) ≡ true = others_stay s i in
-    record {
-      stays = where';
-      size = size;
-      needs = (λ j. map subblock_need (none j) ++ ([] ++ ([] ++ (directory_needs (where' j) (need_of (size j)) ++ directory_needs (nothing j) (attdir_need s.document.attachments)))))
-          ∙ append-nil (directory_needs (fits_in_place x.directory (left_size i x) (left_range i x)) (need_of (left_size i x)));
-    }
-
--- one need, in one list
-one_full : (space : Space) (n : ℕ) (f : Full) → fit space n ≡ Err f → fit_all space (n ∷ []) ≡ Err f
-one_full space n f e = rw e refl
-
--- why a removal has no plan
-pub no_place : (x : Index) (m : MapState) (i : ℕ) (fault : PlanFault) → IsMapOf x m → i < length x.tiles.items → fits_in_place x.directory (left_size i x) (left_range i x) ≡ false
-    → IsFull fault (fit (space_in m) (need_of (left_size i x))) → HasNoPlan x m (in_subblocks (out i)) fault
-no_place x m i (Filled need len) is h no' full' image live s lies =
-    let a = asks image live s x m i lies is h in
-    (λ j. fit_all (sym lies.space j) ((a.needs ∙ ap (λ z. directory_needs z (need_of (left_size i x))) no') j)) ∙ one_full (space_in m) (need_of (left_size i x)) _ full'
-no_place x m i Memory is h no' full' image live s lies = absurd full'
-
-pub no_memory : (x : Index) (m : MapState) (i : ℕ) (c : DirectoryChange) → IsMapOf x m → i < length x.tiles.items → IsPlace x x.directory (left_size i x) (left_range i x) (space_in m) c → HasNoPlan x m (in_subblocks (out i)) Memory
-no_memory x m i c is h place image live s lies =
-    let a = asks image live s x m i lies is h in (
-      record { spans = used_by c; space = space_by c (space_in m) },
-      (λ j. fit_all (sym lies.space j) (a.needs j)) ∙ directory_fits x x.directory (left_size i x) (left_range i x) (space_in m) c place,
-    )
+use Rattle.czi_plan.specs.Pieces.{piece_of, pieces_of, writes_of}
+use Rattle.czi_image.specs.declared.change.Act.TheVariants.{Out, Put, Into}
+use Rattle.czi_region.specs.declared.block.Piece.{Piece as Range}
+use Rattle.czi_plan.specs.Changing.{Brings, IsNew, IsStaged, Stages, all_left, back_entries, front_entries, items_left, middle_entries, new_spans, range_after, size_after, space_behind, tiles_brought}
+use Rattle.czi_plan.specs.Marks.{head_mark}
+use Rattle.czi_plan.proofs.Acts.{act_as, back_stays, brings_past, brought_act, brought_as, changes_act, entries_after_act, entries_before_act, mapped_act, old_entries, omitted_act}
+use Rattle.czi_plan.proofs.Changed.{Changes, changes_of, freed_by, plan_of}
+use Rattle.czi_plan.proofs.Directing.{IsPut, PointsTo, PutsHead, before_put, deleted_put, dir_listed, dir_pointer, dir_writable, directory_in_own, header_clear, pointer_none, points_to}
+use Rattle.czi_plan.proofs.Linking.{all_entries, tile_long, tile_writes, writes_by}
+use Rattle.czi_plan.proofs.Needs.{Asks, IsAct, act_fits, asks, directory_lies, directory_spans_are, is_act, left_by, others_stay, space_by, space_length, stays_or_new}
+use Rattle.czi_plan.proofs.Parts.{each_of, free_once, length_by, live_of, spans_split, tile_spans, used_by}
 
 -- the live segments but the file header, as the index has them
 abbrev pub places_of : Index → List Place
@@ -278,12 +89,12 @@ both_spans ps qs us vs a b = map-append (λ (p : Place). p.span) ps qs ∙ (λ j
 
 pub places_spans : (x : Index) → header_span x.header ∷ spans_of (places_of x) ≡ live_of x
 places_spans x = ap (λ (l : List Span). header_span x.header ∷ l)
-    (both_spans _ _ _ _ (some_spans directory_place x.directory) (both_spans _ _ _ _ (list_spans tile_place x.tiles.items) (both_spans _ _ _ _ (some_spans directory_place x.attdir)
-    (both_spans _ _ _ _ (list_spans att_item_place x.attachments.items) (some_spans meta_item_place x.metadata)))))
+    (both_spans _ _ _ _ (some_spans directory_place x.directory) (both_spans _ _ _ _ (tile_spans x.tiles.items) (both_spans _ _ _ _ (some_spans directory_place x.attdir)
+    (both_spans _ _ _ _ (map-map att_item_place (λ (p : Place). p.span) x.attachments.items) (some_spans meta_item_place x.metadata)))))
 
-some_all : {C : Type 0} (place : C → Place) (o : Option C) → ((c : C) → 0 < (place c).span.len) → AllByRecursion (λ (p : Place). 0 < p.span.len) (option_to_list (option_map place o))
-some_all place None f = tt
-some_all place (Some x) f = (f x, tt)
+some_all : {C : Type 0} (P : Place → Type 0) (place : C → Place) (o : Option C) → ((c : C) → P (place c)) → AllByRecursion P (option_to_list (option_map place o))
+some_all P place None f = tt
+some_all P place (Some x) f = (f x, tt)
 
 pub places_some : (x : Index) → AllByRecursion (λ (p : Place). 0 < p.span.len) (places_of x)
 places_some x =
@@ -292,8 +103,8 @@ places_some x =
     let tile : (t : Tile) → 0 < (tile_place t).span.len = λ t. omega (arith, t.extent) in
     let att : (a : AttItem) → 0 < (att_item_place a).span.len = λ a. omega (arith, a.extent) in
     let meta : (m : MetaItem) → 0 < (meta_item_place m).span.len = λ m. omega (arith, m.extent) in
-    All-both P _ _ (some_all directory_place x.directory dir) (All-both P _ _ (list_all tile_place x.tiles.items tile) (All-both P _ _ (some_all directory_place x.attdir dir)
-    (All-both P _ _ (list_all att_item_place x.attachments.items att) (some_all meta_item_place x.metadata meta))))
+    All-both P _ _ (some_all P directory_place x.directory dir) (All-both P _ _ (map-All tile_place P x.tiles.items (each_of _ tile x.tiles.items)) (All-both P _ _ (some_all P directory_place x.attdir dir)
+    (All-both P _ _ (map-All att_item_place P x.attachments.items (each_of _ att x.attachments.items)) (some_all P meta_item_place x.metadata meta))))
 
 pub places_once : (x : Index) (q : ℕ) → cover (spans_of (places_of x)) q ≤ 1
 places_once x q = omega (arith, free_once (live_of x) 0 [] q x.disjoint tt tt, ap (λ l. cover l q) (places_spans x))
@@ -317,10 +128,48 @@ new_walked x l old size range space c lies place d e = let here : IsPlace x old 
 pub stays_in_place : (s : State) (c : Change Subblock) → changes c (length s.layout.subblocks) ≡ true → tiles_stay s (in_subblocks c) ≡ subblocks_in_place s c
 stays_in_place s c ch = let moved = change_moves (λ x. fresh (subblock_need x)) c s.layout.subblocks (new_never subblock_need) ch in ap (λ z. z || subblocks_in_place s c) moved
 
--- a removal brings nothing
-pub fit_out : {X : Type 0} (l : Layout) (space : Space) (need : X → ℕ) (i : ℕ) → fit_brought l space need (out i) ≡ Ok (record { places = out i; back = []; used = []; space = space })
-fit_out l space need zero = refl
-fit_out l space need (suc i) = let rest = fit_out l space need i in rw rest refl
+-- what an act brings lies where it fits
+fit_past : (l : Layout) (space : Space) (i : ℕ) (c : Change Subblock) (places : List (Act Place)) (used : List Span) (rest : Space) → fit_brought l space subblock_need c ≡ Ok (record { places = places; back = []; used = used; space = rest })
+    → fit_brought l space subblock_need (past i c) ≡ Ok (record { places = past i places; back = []; used = used; space = rest })
+fit_past l space zero c places used rest e = e
+fit_past l space (suc i) c places used rest e = let more = fit_past l space i c places used rest e in rw more refl
+
+tile_walked : (x : Index) (m : MapState) (l : Layout) (s : Subblock) (t : Tile) → LiesAs l x → IsNew x m s t → new_place l (tile_span t) ≡ tile_place t
+tile_walked x m l s t lies new =
+    let walked : t.walked ≡ (nat_lt t.span.at l.length || walk_goes_on l) = new.walked ∙ (λ j. nat_lt t.span.at (lies.length j) || (round32 (lies.walk_end j) == round32 (lies.length j))) in
+    λ j. record { span = tile_span t; walked = sym walked j }
+
+pub fit_act : (x : Index) (m : MapState) (l : Layout) (region : Region) (a : CodeAct Tile) (c : Change Subblock) (writes : List (ℕ × Range)) → LiesAs l x → Brings x m region a c writes
+    → fit_brought l (space_in m) subblock_need c ≡ Ok (record { places = act_of (act_as tile_place a); back = []; used = new_spans a; space = space_behind a m })
+fit_act x m l region (Out i) c writes lies b = ap (fit_brought l (space_in m) subblock_need) b.0 ∙ fit_past l (space_in m) i (omit ∷ []) (omit ∷ []) [] (space_in m) refl
+fit_act x m l region (Put i t) c writes lies b =
+    let fits : fit (space_in m) (subblock_need b.0) ≡ Ok (record { span = tile_span t; space = use_span (space_in m) (tile_span t) }) = b.2.fits in
+    let one : fit_brought l (space_in m) subblock_need (omit ∷ bring b.0 ∷ []) ≡ Ok (record { places = omit ∷ bring (new_place l (tile_span t)) ∷ []; back = []; used = tile_span t ∷ []; space = use_span (space_in m) (tile_span t) }) = rw fits refl in
+    ap (fit_brought l (space_in m) subblock_need) b.1
+    ∙ fit_past l (space_in m) i (omit ∷ bring b.0 ∷ []) (omit ∷ bring (tile_place t) ∷ []) (tile_span t ∷ []) (use_span (space_in m) (tile_span t))
+    (one ∙ ap (λ (p : Place). Ok (record { places = omit ∷ bring p ∷ []; back = []; used = tile_span t ∷ []; space = use_span (space_in m) (tile_span t) })) (tile_walked x m l b.0 t lies b.2))
+fit_act x m l region (Into i t) c writes lies b =
+    let fits : fit (space_in m) (subblock_need b.0) ≡ Ok (record { span = tile_span t; space = use_span (space_in m) (tile_span t) }) = b.2.fits in
+    let one : fit_brought l (space_in m) subblock_need (bring b.0 ∷ []) ≡ Ok (record { places = bring (new_place l (tile_span t)) ∷ []; back = []; used = tile_span t ∷ []; space = use_span (space_in m) (tile_span t) }) = rw fits refl in
+    ap (fit_brought l (space_in m) subblock_need) b.1
+    ∙ fit_past l (space_in m) i (bring b.0 ∷ []) (bring (tile_place t) ∷ []) (tile_span t ∷ []) (use_span (space_in m) (tile_span t))
+    (one ∙ ap (λ (p : Place). Ok (record { places = bring p ∷ []; back = []; used = tile_span t ∷ []; space = use_span (space_in m) (tile_span t) })) (tile_walked x m l b.0 t lies b.2))
+
+-- what an act brings is what an edit brings
+pub brings_act : (P : FormatTile → Subblock → Type 0) (x : Index) (m : MapState) (region : Region) (a : CodeAct Tile) (c : Change Subblock) (writes : List (ℕ × Range)) → Brings x m region a c writes
+    → ((s : Subblock) (t : Tile) → tiles_brought a ≡ t ∷ [] → IsNew x m s t → IsStaged region s t writes → P (tile_of t) s) → Both P (mapped tile_of (act_of a)) c
+brings_act P x m region (Out i) c writes b f = let o : CodeAct Tile = Out i in subst (Both P (mapped tile_of (act_of o))) (sym b.0) (subst (λ z. Both P z (out i)) (sym (mapped_act tile_of o)) (brings_past P i (omit ∷ []) (omit ∷ []) tt))
+brings_act P x m region (Put i t) c writes b f =
+    subst (Both P (mapped tile_of (act_of (Put i t)))) (sym b.1) (subst (λ z. Both P z (put i b.0)) (sym (mapped_act tile_of (Put i t))) (brings_past P i (omit ∷ bring (tile_of t) ∷ []) (omit ∷ bring b.0 ∷ []) (f b.0 t refl b.2 b.3, tt)))
+brings_act P x m region (Into i t) c writes b f =
+    subst (Both P (mapped tile_of (act_of (Into i t)))) (sym b.1) (subst (λ z. Both P z (into i b.0)) (sym (mapped_act tile_of (Into i t))) (brings_past P i (bring (tile_of t) ∷ []) (bring b.0 ∷ []) (f b.0 t refl b.2 b.3, tt)))
+
+brought_images : {X : Type 0} (f : Tile → X) (a : CodeAct Tile) → brought (mapped f (act_of a)) ≡ map f (tiles_brought a)
+brought_images f a = ap brought (mapped_act f a) ∙ (brought_act (act_as f a) ∙ brought_as f a)
+
+tile_extents : (ts : List Tile) → map (λ (t : FormatTile). extent t.segment) (map tile_of ts) ≡ map tile_span ts
+tile_extents [] = refl
+tile_extents (t ∷ ts) = λ j. record { at = t.span.at; len = sym t.extent j } ∷ tile_extents ts j
 
 -- What a plan has of a change of the subblocks.
 pub record LaysTiles (x : Index) (s : State) (p : EditPlan) (c : Change Subblock) (size range : ℕ) (d : DirectoryChange) (item : Fitted (List (Act Place))) (gone : List Place) : Type 0 where
@@ -548,161 +397,266 @@ dead_cover c x q =
       dead_heads D A q,
     )
 
-changed_entries : (i : ℕ) (ts : List Tile) → map (λ (t : FormatTile). t.entry) (changed (out i) (map tile_of ts)) ≡ entries_of (take i ts) ++ entries_of (drop (i + 1) ts)
-changed_entries i ts = ap (map (λ (t : FormatTile). t.entry)) (out_map tile_of i ts) ∙ (map-map tile_of (λ (t : FormatTile). t.entry) (changed (out i) ts) ∙ left_entries i ts)
+-- and of the items alone
+abbrev pub brought_items : CodeChange → List Place
+brought_items c = brought (mapped tile_place (acts_of c.tiles.items)) ++ (brought (mapped att_item_place (acts_of c.attachments.items)) ++ option_to_list (set_new (mapped_setting meta_item_place (setting_of c.metadata))))
 
-new_spans : (d : DirectoryChange) (q : ℕ) → cover (spans_of (new_dir d)) q ≡ cover (used_by d) q
-new_spans Kept q = refl
-new_spans Patched q = refl
-new_spans (New d) q = refl
+pub items_left_after : (c : CodeChange) (deleted : List Span) (n : ℕ) (l : Layout) (x : Index) → LiesAs l x → ((q : ℕ) → cover (item_spans (items_of l)) q + cover (spans_of (brought_items c)) q ≤ 1) → AllByRecursion (λ (y : Place). 0 < y.span.len) (item_places (items_of l))
+    → not_among (item_spans (items_of (layout_after c deleted n l))) (item_places (items_of l)) ≡ left_items c x
+items_left_after c deleted n l x lies apart some =
+    let all = turns_both _ _ _ _ _ _ _ _ _ _ (turns_list (mapped tile_place (acts_of c.tiles.items)) l.subblocks)
+    (turns_both _ _ _ _ _ _ _ _ _ _ (turns_list (mapped att_item_place (acts_of c.attachments.items)) l.attachments) (turns_set (mapped_setting meta_item_place (setting_of c.metadata)) l.metadata)) in
+    turns_left (item_places (items_of l)) _ _ (brought_items c) (item_places (items_of (layout_after c deleted n l))) all apart some
+    ∙ (λ j. left_list tile_place (acts_of c.tiles.items) x.tiles.items l.subblocks lies.subblocks j
+    ++ (left_list att_item_place (acts_of c.attachments.items) x.attachments.items l.attachments lies.attachments j ++ option_to_list (left_set meta_item_place (setting_of c.metadata) x.metadata l.metadata lies.metadata j)))
 
-module _ {image : List ℕ} {live : Live} {s : State} {x : Index} {m : MapState} {i : ℕ} {region : Region} {d : DirectoryChange} {new : EditPlan} (lies : LiesIn image live s x m) (is : IsMapOf x m) (h : i < length x.tiles.items) (plan : IsPlan x m region new) (r : Removes x m i region d new) where
-  a : Asks x s i
-  a = asks image live s x m i lies is h
+-- entries of what is changed
+changed_entries : (a : CodeAct Tile) (ts : List Tile) → map (λ (t : FormatTile). t.entry) (changed (mapped tile_of (act_of a)) (map tile_of ts)) ≡ front_entries a ts ++ (middle_entries a ts ++ back_entries a ts)
+changed_entries a ts =
+    ap (map (λ (t : FormatTile). t.entry)) (sym (map-changed tile_of tile_of (act_of a) ts (each_of (λ t. tile_of t ≡ tile_of t) (λ t. refl) (kept (act_of a) ts))))
+    ∙ (map-map tile_of (λ (t : FormatTile). t.entry) (changed (act_of a) ts) ∙ entries_after_act a ts)
 
-  abbrev front : List Entry
-  front = entries_of (take i x.tiles.items)
+new_cover : (d : DirectoryChange) (q : ℕ) → cover (spans_of (new_dir d)) q ≡ cover (used_by d) q
+new_cover Kept q = refl
+new_cover Patched q = refl
+new_cover (New d) q = refl
 
-  abbrev behind : List Entry
-  behind = entries_of (drop (i + 1) x.tiles.items)
+module _ {image : List ℕ} {live : Live} {s : State} {x : Index} {m : MapState} {a : CodeAct Tile} {c : Change Subblock} {region : Region} {d : DirectoryChange} {new : EditPlan} (lies : LiesIn image live s x m) (is : IsMapOf x m) (plan : IsPlan x m region new) (r : Changes x m a c region d new) where
+  abbrev ts : List Tile
+  ts = x.tiles.items
+
+  abbrev first : EditPlan
+  first = r.stages.first
+
+  brings : Brings x m region a c first.writes.items
+  brings = r.stages.brings
+
+  of_act : IsAct x m a c
+  of_act = is_act x m region a c first.writes.items brings
+
+  asked : Asks x s of_act.act
+  asked = asks image live s x m of_act.act lies is (of_act.within (length ts) r.stages.within)
+
+  abbrev all : List Entry
+  all = all_entries a x
+
+  abbrev size : ℕ
+  size = size_after a x
+
+  abbrev range : ℕ
+  range = range_after a x
+
+  abbrev ours : List Bytes
+  ours = writes_of region first ++ writes_by d all
 
   abbrev pieces : List Piece
-  pieces = map piece_of (writes_by d (front ++ behind) ++ new.links.links)
+  pieces = map piece_of (ours ++ new.links.links)
 
   abbrev here : Bool
-  here = fits_in_place x.directory (left_size i x) (left_range i x)
+  here = fits_in_place x.directory size range
+
+  abbrev rest : Space
+  rest = use_all (space_of s) (new_spans a)
+
+  stays_here : tiles_stay s (in_subblocks c) ≡ here
+  stays_here = ap (λ z. tiles_stay s (in_subblocks z)) of_act.is ∙ (asked.stays ∙ (λ j. fits_in_place x.directory (sym of_act.size j) (sym of_act.range j)))
 
   -- what is made of the subblocks
-  tiles_are : mapped tile_of (acts_of new.change.tiles.items) ≡ out i
-  tiles_are = ap (λ (l : List (CodeAct Tile)). mapped tile_of (acts_of l)) r.acts ∙ mapped_out tile_of i
+  tiles_are : mapped tile_of (acts_of new.change.tiles.items) ≡ mapped tile_of (act_of a)
+  tiles_are = ap (λ (l : List (CodeAct Tile)). mapped tile_of (acts_of l)) r.stages.acts
 
-  entries_are : entries_after new.change x ≡ front ++ behind
-  entries_are = ap (λ (c : List (Act FormatTile)). map (λ (t : FormatTile). t.entry) (changed c (map tile_of x.tiles.items))) tiles_are ∙ changed_entries i x.tiles.items
+  tiles_new : brought (mapped tile_of (acts_of new.change.tiles.items)) ≡ map tile_of (tiles_brought a)
+  tiles_new = ap (λ (z : List (Act FormatTile)). brought z) tiles_are ∙ brought_images tile_of a
 
-  placed_in : IsPlace x x.directory (left_size i x) (left_range i x) (space_of s) d
-  placed_in = subst (λ z. IsPlace x x.directory (left_size i x) (left_range i x) z d) lies.space r.place
+  entries_are : entries_after new.change x ≡ all
+  entries_are = ap (λ (z : List (Act FormatTile)). map (λ (t : FormatTile). t.entry) (changed z (map tile_of ts))) tiles_are ∙ changed_entries a ts
+
+  placed_in : IsPlace x x.directory size range rest d
+  placed_in = subst (λ z. IsPlace x x.directory size range (use_all z (new_spans a)) d) lies.space r.stages.place
 
   -- The needs fit, and lie where the plan has them.
-  needs_fit : fit_all (space_of s) (needs_of s (in_subblocks (out i))) ≡ Ok (record { spans = used_of new; space = space_by d (space_of s) })
-  needs_fit = ap (fit_all (space_of s)) a.needs ∙ (directory_fits x x.directory (left_size i x) (left_range i x) (space_of s) d placed_in ∙ (λ j. Ok (record { spans = sym r.used j; space = space_by d (space_of s) })))
+  needs_fit : fit_all (space_of s) (needs_of s (in_subblocks c)) ≡ Ok (record { spans = used_of new; space = space_by d rest })
+  needs_fit =
+      let fits = act_fits x m of_act.act (new_spans a) size range d of_act.fits of_act.size of_act.range r.stages.place in
+      (λ j. fit_all (sym lies.space j) (needs_of s (in_subblocks (of_act.is j))))
+      ∙ (ap (fit_all (space_in m)) asked.needs ∙ (fits ∙ (λ j. Ok (record { spans = sym r.used j; space = space_by d (use_all (lies.space j) (new_spans a)) }))))
 
-  lies_in_order : LiesInOrder s (in_subblocks (out i)) (turn_of new.change x) (used_of new)
+  lies_in_order : LiesInOrder s (in_subblocks c) (turn_of new.change x) (used_of new)
   lies_in_order =
       let make : Span → Directory = λ z. directory_in z (entries_after new.change x) in
       let make' : Span → Directory = λ z. attdir_in z (a1s_after new.change x) in
-      let none : brought (mapped tile_of (acts_of new.change.tiles.items)) ≡ [] = ap (λ (c : List (Act FormatTile)). brought c) tiles_are ∙ brought_out FormatTile i in
-      let other = others_stay s i in
-      let new_dir' = stays_or_new make x x.directory (left_size i x) (left_range i x) (space_in m) d (directory_in_own (entries_after new.change x)) r.place in
-      let spans : used_by d ≡ directory_spans here (directory_set make d x.directory) = directory_spans_are make x x.directory (left_size i x) (left_range i x) (space_in m) d (directory_in_own (entries_after new.change x)) r.place in
+      let other = others_stay s c in
+      let new_dir' = stays_or_new make x x.directory size range (space_behind a m) d (directory_in_own (entries_after new.change x)) r.stages.place in
+      let spans : used_by d ≡ directory_spans here (directory_set make d x.directory) = directory_spans_are make x x.directory size range (space_behind a m) d (directory_in_own (entries_after new.change x)) r.stages.place in
+      let firsts : map (λ (t : FormatTile). extent t.segment) (brought (mapped tile_of (acts_of new.change.tiles.items))) ≡ new_spans a = ap (map (λ (t : FormatTile). extent t.segment)) tiles_new ∙ tile_extents (tiles_brought a) in
       record {
-        tiles = subst (λ (c : List (Act FormatTile)). Brings {Y = Subblock} (λ x y. ⊤) c (out i)) (sym tiles_are) (brings_out (λ x y. ⊤) i);
-        attachments = subst (λ (l : List (CodeAct AttItem)). Brings {Y = Attachment} (λ x y. ⊤) (mapped att_item_of (acts_of l)) []) (sym r.attachments) tt;
-        metadata = subst (λ (c : CodeSetting MetaItem). Sets {Y = Metadata} (λ x y. ⊤) (mapped_setting meta_item_of (setting_of c)) same) (sym r.metadata) tt;
-        directory = subst (λ b. StaysOrNew b s.layout.directory (directory_set make new.change.directory x.directory)) (sym a.stays) (subst (λ o. StaysOrNew here o (directory_set make new.change.directory x.directory)) lies.lies.directory
-            (subst (λ c. StaysOrNew here (option_map directory_place x.directory) (directory_set make c x.directory)) (sym r.directory) new_dir'));
-        attdir = subst (λ b. StaysOrNew b s.layout.attdir (directory_set make' new.change.attdir x.attdir)) (sym other) (subst (λ c. StaysOrNew true s.layout.attdir (directory_set make' c x.attdir)) (sym r.attdir) tt);
-        spans_are = r.used ∙ (spans ∙ (sym (append-nil (directory_spans here (directory_set make d x.directory))) ∙ sym (λ j. map (λ (t : FormatTile). extent t.segment) (none j)
-            ++ (map (λ (t : FormatAttItem). extent t.segment) (brought (mapped att_item_of (acts_of (r.attachments j)))) ++ (map (λ (t : FormatMetaItem). extent t.segment) (option_to_list (set_new (mapped_setting meta_item_of (setting_of (r.metadata j)))))
-            ++ (directory_spans (a.stays j) (directory_set make (r.directory j) x.directory) ++ directory_spans (other j) (directory_set make' (r.attdir j) x.attdir)))))));
+        tiles = subst (λ (z : List (Act FormatTile)). Both {Y = Subblock} (λ x y. ⊤) z c) (sym tiles_are) (brings_act (λ x y. ⊤) x m region a c first.writes.items brings (λ s t one new staged. tt));
+        attachments = subst (λ (l : List (CodeAct AttItem)). Both {Y = Attachment} (λ x y. ⊤) (mapped att_item_of (acts_of l)) []) (sym r.stages.attachments) tt;
+        metadata = subst (λ (z : CodeSetting MetaItem). Sets {Y = Metadata} (λ x y. ⊤) (mapped_setting meta_item_of (setting_of z)) same) (sym r.stages.metadata) tt;
+        directory = subst (λ b. StaysOrNew b s.layout.directory (directory_set make new.change.directory x.directory)) (sym stays_here) (subst (λ o. StaysOrNew here o (directory_set make new.change.directory x.directory)) lies.lies.directory
+            (subst (λ z. StaysOrNew here (option_map directory_place x.directory) (directory_set make z x.directory)) (sym r.stages.directory) new_dir'));
+        attdir = subst (λ b. StaysOrNew b s.layout.attdir (directory_set make' new.change.attdir x.attdir)) (sym other) (subst (λ z. StaysOrNew true s.layout.attdir (directory_set make' z x.attdir)) (sym r.stages.attdir) tt);
+        spans_are = r.used ∙ ((λ j. sym firsts j ++ spans j) ∙ (ap (λ l. map (λ (t : FormatTile). extent t.segment) (brought (mapped tile_of (acts_of new.change.tiles.items))) ++ l) (sym (append-nil (directory_spans here (directory_set make d x.directory))))
+            ∙ sym (λ j. map (λ (t : FormatTile). extent t.segment) (brought (mapped tile_of (acts_of new.change.tiles.items)))
+            ++ (map (λ (t : FormatAttItem). extent t.segment) (brought (mapped att_item_of (acts_of (r.stages.attachments j)))) ++ (map (λ (t : FormatMetaItem). extent t.segment) (option_to_list (set_new (mapped_setting meta_item_of (setting_of (r.stages.metadata j)))))
+            ++ (directory_spans (stays_here j) (directory_set make (r.stages.directory j) x.directory) ++ directory_spans (other j) (directory_set make' (r.stages.attdir j) x.attdir)))))));
       }
 
   -- The layout is the machine's.
-  lays : laid s (edit_next s (in_subblocks (out i))) ≡ Ok (layout_by new s)
+  lays : laid s (edit_next s (in_subblocks c)) ≡ Ok (layout_by new s)
   lays =
-      let item : Fitted (List (Act Place)) = record { places = out i; back = []; used = []; space = space_of s } in
-      tiles_laid x s new (out i) (left_size i x) (left_range i x) d item (tile_place r.tile ∷ []) (record {
+      let long : length s.layout.subblocks ≡ length ts = omega (arith, ap (length {A = Place}) lies.lies.subblocks, length-map ts tile_place) in
+      let item : Fitted (List (Act Place)) = record { places = act_of (act_as tile_place a); back = []; used = new_spans a; space = rest } in
+      tiles_laid x s new c size range d item (items_left a x) (record {
         lies = lies.lies;
-        changing = changes_out Subblock i (length s.layout.subblocks) (omega (arith, ap (length {A = Place}) lies.lies.subblocks, length-map x.tiles.items tile_place, h));
-        fits = fit_out s.layout (space_of s) subblock_need i;
-        acts = sym (ap (λ (l : List (CodeAct Tile)). mapped tile_place (acts_of l)) r.acts ∙ mapped_out tile_place i);
-        stays = a.stays;
-        sized = ap need_of a.size;
+        changing = subst (λ z. changes z (length s.layout.subblocks) ≡ true) (sym of_act.is) (changes_act of_act.act (length s.layout.subblocks) (of_act.within _ (subst (AreWithin (a ∷ [])) (sym long) r.stages.within)));
+        fits = subst (λ z. fit_brought s.layout z subblock_need c ≡ Ok (record { places = act_of (act_as tile_place a); back = []; used = new_spans a; space = use_all z (new_spans a) })) lies.space (fit_act x m s.layout region a c first.writes.items lies.lies brings);
+        acts = sym (ap (λ (l : List (CodeAct Tile)). mapped tile_place (acts_of l)) r.stages.acts ∙ mapped_act tile_place a);
+        stays = stays_here;
+        sized = ap need_of (ap (λ z. 128 + sum (entry_sizes (changed z s.document.subblocks))) of_act.is ∙ (asked.size ∙ sym of_act.size));
         place = placed_in;
-        directory = r.directory;
-        attdir = r.attdir;
-        attachments = r.attachments;
-        metadata = r.metadata;
+        directory = r.stages.directory;
+        attdir = r.stages.attdir;
+        attachments = r.stages.attachments;
+        metadata = r.stages.metadata;
         used = r.used;
-        length = r.long ∙ ap (λ (z : Space). length_by d z.length) lies.space;
-        leaves = ap (omitted (out {X = Subblock} i)) (sym lies.lies.subblocks) ∙ (omitted_map tile_place (out {X = Subblock} i) x.tiles.items ∙ ap (map tile_place) (omitted_one Subblock x.tiles.items i r.tile h r.is_tile));
-        freed = r.freed;
+        length = r.long ∙ ap (λ (z : Space). length_by d (use_all z (new_spans a)).length) lies.space;
+        leaves = (λ j. omitted (of_act.is j) (sym lies.lies.subblocks j)) ∙ (omitted_act of_act.act (map tile_place ts) ∙ of_act.leaves);
+        freed = r.stages.freed;
       })
 
   -- What is written is what the machine asks for.
   apart_places : (q : ℕ) → cover (spans_of (places_of x)) q + cover (spans_of (brought_places new.change)) q ≤ 1
   apart_places q =
-      let none : brought (mapped tile_place (acts_of new.change.tiles.items)) ≡ [] = ap (λ (l : List (CodeAct Tile)). brought (mapped tile_place (acts_of l))) r.acts ∙ (ap (λ (c : List (Act Place)). brought c) (mapped_out tile_place i) ∙ brought_out Place i) in
-      let only : brought_places new.change ≡ new_dir d ++ []
-      = λ j. new_dir (r.directory j) ++ (none j ++ (new_dir (r.attdir j) ++ (brought (mapped att_item_place (acts_of (r.attachments j))) ++ option_to_list (set_new (mapped_setting meta_item_place (setting_of (r.metadata j))))))) in
-      omega (arith, plan.apart q, ap (λ l. cover l q) r.used, ap (λ l. cover l q) (places_spans x), ap (λ l. cover (spans_of l) q) (only ∙ append-nil (new_dir d)), new_spans d q)
+      let only : brought_places new.change ≡ new_dir d ++ (map tile_place (tiles_brought a) ++ [])
+      = λ j. new_dir (r.stages.directory j) ++ ((ap (λ (l : List (CodeAct Tile)). brought (mapped tile_place (acts_of l))) r.stages.acts ∙ brought_images tile_place a) j
+      ++ (new_dir (r.stages.attdir j) ++ (brought (mapped att_item_place (acts_of (r.stages.attachments j))) ++ option_to_list (set_new (mapped_setting meta_item_place (setting_of (r.stages.metadata j))))))) in
+      omega (
+        arith,
+        plan.apart q,
+        ap (λ l. cover l q) r.used,
+        cover-append (new_spans a) (used_by d) q,
+        ap (λ l. cover l q) (places_spans x),
+        ap (λ l. cover (spans_of l) q) (only ∙ ap (λ l. new_dir d ++ l) (append-nil (map tile_place (tiles_brought a)))),
+        both_cover (new_dir d) (map tile_place (tiles_brought a)) q,
+        ap (λ l. cover l q) (tile_spans (tiles_brought a)),
+        new_cover d q,
+      )
+
+  -- the items that leave
+  items_leave : not_among (item_spans (items_of (layout_by new s))) (item_places (items_of s.layout)) ≡ left_items new.change x
+  items_leave =
+      let l : Layout = s.layout in
+      let D : List Place = option_to_list l.directory in
+      let A : List Place = option_to_list l.attdir in
+      let M : List Place = l.attachments ++ option_to_list l.metadata in
+      let P : Place → Type 0 = λ p. 0 < p.span.len in
+      let some : AllByRecursion P (live_places l) = subst (AllByRecursion P) (sym (places_are l x lies.lies)) (places_some x) in
+      let behind = All-append P D (l.subblocks ++ (A ++ M)) some in
+      let tiles = All-append P l.subblocks (A ++ M) behind.1 in
+      items_left_after new.change (extents_after new l.deleted) new.length l x lies.lies (λ q. omega (
+        arith,
+        apart_places q,
+        ap (λ ps. cover (spans_of ps) q) (places_are l x lies.lies),
+        both_cover D (l.subblocks ++ (A ++ M)) q,
+        both_cover l.subblocks (A ++ M) q,
+        both_cover A M q,
+        both_cover l.subblocks M q,
+        fewer_items new.change q,
+      )) (All-both P l.subblocks M tiles.0 (All-append P A M tiles.1).1)
+    where
+      fewer_items : (z : CodeChange) (q : ℕ) → cover (spans_of (brought_items z)) q ≤ cover (spans_of (brought_places z)) q
+      fewer_items z q =
+          let T : List Place = brought (mapped tile_place (acts_of z.tiles.items)) in
+          let M : List Place = brought (mapped att_item_place (acts_of z.attachments.items)) ++ option_to_list (set_new (mapped_setting meta_item_place (setting_of z.metadata))) in
+          omega (arith, both_cover T M q, both_cover (new_dir z.directory) (T ++ (new_dir z.attdir ++ M)) q, both_cover T (new_dir z.attdir ++ M) q, both_cover (new_dir z.attdir) M q)
 
   gone_is : dead s.layout (layout_by new s) ≡ dead_of (gone_of new.change x)
   gone_is = ap (λ (ps : List Place). dead_of ps) (left_after new.change (extents_after new s.layout.deleted) new.length s.layout x lies.lies apart_places ∙ gone_are new.change s.layout x lies.lies)
 
   -- a directory changes as it does
-  sets_are : directory_set (λ z. directory_in z (front ++ behind)) d x.directory ≡ (turn_of new.change x).directory
-  sets_are = λ j. directory_set (λ z. directory_in z (sym entries_are j)) (sym r.directory j) x.directory
+  sets_are : directory_set (λ z. directory_in z all) d x.directory ≡ (turn_of new.change x).directory
+  sets_are = λ j. directory_set (λ z. directory_in z (sym entries_are j)) (sym r.stages.directory j) x.directory
 
   pointed : PointsTo live.header.directory live.directory
   pointed = points_to image live.header.directory live.directory lies.loosely.reaches.directory
 
   lists_dir : ListsTiles pieces (turn_of new.change x).directory live.directory live.tiles (turned (turn_of new.change x) live).tiles
   lists_dir =
-      let were : map (λ (t : FormatTile). t.entry) live.tiles ≡ front ++ entries_of (drop i x.tiles.items)
-      = ap (map (λ (t : FormatTile). t.entry)) (sym lies.holds.tiles) ∙ (map-map tile_of (λ (t : FormatTile). t.entry) x.tiles.items
-      ∙ (ap entries_of (sym (take-append-drop i x.tiles.items)) ∙ map-append (λ (t : Tile). (tile_of t).entry) (take i x.tiles.items) (drop i x.tiles.items))) in
-      let are : map (λ (t : FormatTile). t.entry) (turned (turn_of new.change x) live).tiles ≡ front ++ behind
+      let were : map (λ (t : FormatTile). t.entry) live.tiles ≡ front_entries a ts ++ (old_entries a ts ++ back_entries a ts)
+      = ap (map (λ (t : FormatTile). t.entry)) (sym lies.holds.tiles) ∙ (map-map tile_of (λ (t : FormatTile). t.entry) ts ∙ entries_before_act a ts) in
+      let are : map (λ (t : FormatTile). t.entry) (turned (turn_of new.change x) live).tiles ≡ all
       = ap (λ (l : List FormatTile). map (λ (t : FormatTile). t.entry) (changed (mapped tile_of (acts_of new.change.tiles.items)) l)) (sym lies.holds.tiles) ∙ entries_are in
-      subst (λ c. ListsTiles pieces c live.directory live.tiles (turned (turn_of new.change x) live).tiles) sets_are
-      (dir_listed x.directory d front behind (entries_of (drop i x.tiles.items)) live.header.directory live.directory live.tiles (turned (turn_of new.change x) live).tiles r.dir were are lies.holds.directory pointed)
+      subst (λ z. ListsTiles pieces z live.directory live.tiles (turned (turn_of new.change x) live).tiles) sets_are
+      (dir_listed x.directory d (front_entries a ts) (old_entries a ts) (middle_entries a ts) (back_entries a ts) live.header.directory live.directory live.tiles (turned (turn_of new.change x) live).tiles r.dir were are (back_stays a ts) lies.holds.directory pointed)
+
+  -- a new subblock is written
+  writes_tile : (z : Subblock) (t : Tile) → tiles_brought a ≡ t ∷ [] → IsNew x m z t → IsStaged region z t first.writes.items → BringsTile image pieces (tile_of t) z
+  writes_tile z t one new' staged =
+      let put = before_put r.dir in
+      let mark : AllByRecursion (IsPut pieces) (head_mark (tile_of t).segment ∷ []) = subst (AllByRecursion (IsPut pieces)) (ap (map (λ (u : Tile). head_mark (tile_of u).segment)) one) put.1 in
+      let write = subst (AllByRecursion (IsPut pieces)) (tile_writes region z t first.writes.items staged) put.0 in
+      inl (record {
+        item = new'.item;
+        used = new'.used;
+        padding = staged.padding;
+        puts = record { head = mark.0.1; contents = write.0.1; whole = tile_long region z t first.writes.items staged };
+      })
 
   writes_in : WritesAround live.header (turn_of new.change x) s.layout (layout_by new s) pieces
   writes_in =
-      let F : List Span = sorted span_le (usable_of (tile_place r.tile ∷ left_directory d x.directory)) in
       let extents : m.extents ≡ s.layout.deleted = sym is.extents ∙ lies.lies.deleted in
-      let after : deleted_after (used_by d) F m.extents ≡ (layout_by new s).deleted = λ j. deleted_after (sym r.used j) (sym r.freed j) (extents j) in
-      let heads : (q : ℕ) → cover (map head (dead s.layout (layout_by new s))) q ≡ cover (map head (dead_of (tile_place r.tile ∷ left_directory d x.directory))) q
+      let after : deleted_after (new_spans a ++ used_by d) (freed_by a d x) m.extents ≡ (layout_by new s).deleted = λ j. deleted_after (sym r.used j) (sym r.stages.freed j) (extents j) in
+      let heads : (q : ℕ) → cover (map head (dead s.layout (layout_by new s))) q ≡ cover (map head (dead_of (all_left a d x))) q
       = λ q. ap (λ l. cover (map head l) q) gone_is ∙ (dead_cover new.change x q ∙ ap (λ l. cover (map head (dead_of l)) q) r.leaves) in
       let make : Span → Directory = λ z. directory_in z (entries_after new.change x) in
       let t : Turn = turn_of new.change x in
-      let rest : List Segment = map (λ (y : FormatTile). y.segment) (brought t.tiles) ++ (option_to_list (option_map (λ (y : Directory). y.segment) (set_new t.attdir)) ++ (map (λ (y : FormatAttItem). y.segment) (brought t.attachments)
-      ++ option_to_list (option_map (λ (y : FormatMetaItem). y.segment) (set_new t.metadata)))) in
-      let where' : DirectoryChange → List Span → ℕ → ℕ = λ c l q. cover (record { at = 84; len = 16 } ∷ record { at = 104; len = 8 } ∷ (map extent (option_to_list (option_map (λ (y : Directory). y.segment) (set_new (directory_set make c x.directory))) ++ rest)
+      let others' : List Segment = option_to_list (option_map (λ (y : Directory). y.segment) (set_new t.attdir)) ++ (map (λ (y : FormatAttItem). y.segment) (brought t.attachments) ++ option_to_list (option_map (λ (y : FormatMetaItem). y.segment) (set_new t.metadata))) in
+      let tiles : List Segment = map (λ (y : FormatTile). y.segment) (brought t.tiles) in
+      let firsts : map extent tiles ≡ new_spans a = map-map (λ (y : FormatTile). y.segment) extent (brought t.tiles) ∙ (ap (map (λ (y : FormatTile). extent y.segment)) tiles_new ∙ tile_extents (tiles_brought a)) in
+      let lie : (q : ℕ) → cover (new_spans a) q ≤ cover (map extent (tiles ++ others')) q
+      = λ q. omega (arith, ap (λ l. cover l q) (map-append extent tiles others'), cover-append (map extent tiles) (map extent others') q, ap (λ l. cover l q) firsts) in
+      let where' : DirectoryChange → List Span → ℕ → ℕ = λ z l q. cover (record { at = 84; len = 16 } ∷ record { at = 104; len = 8 } ∷ (map extent (option_to_list (option_map (λ (y : Directory). y.segment) (set_new (directory_set make z x.directory))) ++ (tiles ++ others'))
       ++ map head (l ++ dead s.layout (layout_by new s)))) q in
       record {
         inside = record {
-          directory = subst (PutsPointer (λ (y : Directory). y.segment) pieces 84 live.header.directory) sets_are (dir_pointer x.directory d front behind live.header.directory live.directory r.dir lies.holds.directory pointed);
-          metadata = subst (λ (c : CodeSetting MetaItem). PutsPointer (λ (y : FormatMetaItem). y.segment) pieces 92 live.header.metadata (mapped_setting meta_item_of (setting_of c))) (sym r.metadata)
+          directory = subst (PutsPointer (λ (y : Directory). y.segment) pieces 84 live.header.directory) sets_are (dir_pointer x.directory d (front_entries a ts) (middle_entries a ts) (back_entries a ts) live.header.directory live.directory r.dir lies.holds.directory pointed);
+          metadata = subst (λ (z : CodeSetting MetaItem). PutsPointer (λ (y : FormatMetaItem). y.segment) pieces 92 live.header.metadata (mapped_setting meta_item_of (setting_of z))) (sym r.stages.metadata)
               (λ q low high. header_clear r.dir q (omega (arith, high)) (pointer_none q d low));
-          attdir = subst (λ (c : DirectoryChange). PutsPointer (λ (y : Directory). y.segment) pieces 104 live.header.attachments (directory_set (λ z. attdir_in z (a1s_after new.change x)) c x.attdir)) (sym r.attdir)
+          attdir = subst (λ (z : DirectoryChange). PutsPointer (λ (y : Directory). y.segment) pieces 104 live.header.attachments (directory_set (λ z. attdir_in z (a1s_after new.change x)) z x.attdir)) (sym r.stages.attdir)
               (λ q low high. header_clear r.dir q (omega (arith, high)) (pointer_none q d (omega (arith, low))));
-          within = λ q b put. subst (λ c. 1 ≤ where' c (layout_by new s).deleted q) (sym r.directory) (subst (λ l. 1 ≤ where' d l q) after (dir_writable r.dir (dead s.layout (layout_by new s)) make rest q b (directory_in_own (entries_after new.change x)) (heads q) put));
+          within = λ q b put. subst (λ z. 1 ≤ where' z (layout_by new s).deleted q) (sym r.stages.directory)
+              (subst (λ l. 1 ≤ where' d l q) after (dir_writable r.dir (dead s.layout (layout_by new s)) make (tiles ++ others') q b (directory_in_own (entries_after new.change x)) (heads q) (lie q) put));
         };
         deleted = subst (λ (l : List Span). AllByRecursion (PutsDeleted l pieces) (layout_by new s).deleted) extents (subst (AllByRecursion (PutsDeleted m.extents pieces)) after (deleted_put r.dir));
         gone = subst (AllByRecursion (PutsHead pieces)) (sym gone_is) (dead_all (PutsHead pieces) new.change x (subst (λ (l : List Place). AllByRecursion (PutsHead pieces) (dead_of l)) (sym r.leaves) r.dir.written.puts_dead));
       }
 
-  plans : Plans image s.layout (layout_by new s) live (in_subblocks (out i)) (turn_of new.change x) (pieces_of region new)
+  plans : Plans image s.layout (layout_by new s) live (in_subblocks c) (turn_of new.change x) (pieces_of region new)
   plans =
       let make' : Span → Directory = λ z. attdir_in z (a1s_after new.change x) in
-      subst (λ (l : List Bytes). Plans image s.layout (layout_by new s) live (in_subblocks (out i)) (turn_of new.change x) (map piece_of (l ++ new.links.links))) (sym r.writes) (record {
+      subst (λ (l : List Bytes). Plans image s.layout (layout_by new s) live (in_subblocks c) (turn_of new.change x) (map piece_of (l ++ new.links.links))) (sym r.writes) (record {
         directory = lists_dir;
-        tiles = subst (λ (c : List (Act FormatTile)). Brings (BringsTile image pieces) c (out i)) (sym tiles_are) (brings_out (BringsTile image pieces) i);
-        attdir = subst (λ (c : DirectoryChange). ListsAttachments pieces (directory_set make' c x.attdir) live.attdir live.attachments (turned (turn_of new.change x) live).attachments) (sym r.attdir)
-            (ap (λ (l : List (CodeAct AttItem)). changed (mapped att_item_of (acts_of l)) live.attachments) r.attachments);
-        attachments = subst (λ (l : List (CodeAct AttItem)). Brings (BringsAttachment image pieces) (mapped att_item_of (acts_of l)) []) (sym r.attachments) tt;
-        metadata = subst (λ (c : CodeSetting MetaItem). Sets (BringsMetadata image pieces) (mapped_setting meta_item_of (setting_of c)) same) (sym r.metadata) tt;
+        tiles = subst (λ (z : List (Act FormatTile)). Both (BringsTile image pieces) z c) (sym tiles_are) (brings_act (BringsTile image pieces) x m region a c first.writes.items brings writes_tile);
+        attdir = subst (λ (z : DirectoryChange). ListsAttachments pieces (directory_set make' z x.attdir) live.attdir live.attachments (turned (turn_of new.change x) live).attachments) (sym r.stages.attdir)
+            (ap (λ (l : List (CodeAct AttItem)). changed (mapped att_item_of (acts_of l)) live.attachments) r.stages.attachments);
+        attachments = subst (λ (l : List (CodeAct AttItem)). Both (BringsAttachment image pieces) (mapped att_item_of (acts_of l)) []) (sym r.stages.attachments) tt;
+        metadata = subst (λ (z : CodeSetting MetaItem). Sets (BringsMetadata image pieces) (mapped_setting meta_item_of (setting_of z)) same) (sym r.stages.metadata) tt;
         around = writes_in;
         small = omega (arith, plan.can.small);
       })
 
--- So the plan does what the removal of the subblock at a place is.
-pub does : (x : Index) (m : MapState) (i : ℕ) (region : Region) (d : DirectoryChange) (new : EditPlan) → IsMapOf x m → i < length x.tiles.items → IsPlan x m region new → Removes x m i region d new → Does x m region new (in_subblocks (out i))
-does x m i region d new is h plan r image live s lies = record {
-  space = space_by d (space_of s);
-  fits = needs_fit lies is h plan r;
-  length = r.long ∙ (ap (λ (z : Space). length_by d z.length) lies.space ∙ sym (space_length d (space_of s)));
-  order = lies_in_order lies is h plan r;
-  goes = lays lies is h plan r;
-  plans = plans lies is h plan r;
-}
+-- So the plan does what the act is.
+pub does : (x : Index) (m : MapState) (a : CodeAct Tile) (c : Change Subblock) (region : Region) (d : DirectoryChange) (new : EditPlan) → IsMapOf x m → Stages x m a c region d new → Does x m region new (in_subblocks c)
+does x m a c region d new is stages image live s lies =
+    let r = changes_of x m a c region d new is stages in
+    let plan = plan_of x m a c region d new is r in
+    record {
+      space = space_by d (use_all (space_of s) (new_spans a));
+      fits = needs_fit lies is plan r;
+      length = r.long ∙ (ap (λ (z : Space). length_by d (use_all z (new_spans a)).length) lies.space ∙ sym (space_length d (use_all (space_of s) (new_spans a))));
+      order = lies_in_order lies is plan r;
+      goes = lays lies is plan r;
+      plans = plans lies is plan r;
+      leaves = items_leave lies is plan r;
+    }

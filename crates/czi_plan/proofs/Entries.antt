@@ -1,7 +1,7 @@
 -- Steps of loops over lists, and entries that are written one behind another.
-use Rattle.std.proofs.Common.{◌≡◌, ℕ, ◌+◌, List, [], ◌∷◌, ◌++◌, map, take, drop, length, sum, refl, ap, ◌∙◌, arith, length-append, append_assoc, zero, suc, ◌<◌, get_or, sym, subst, ◌-◌, ◌≤◌, pos, replicate, append-nil}
+use Rattle.std.proofs.Common.{◌≡◌, ℕ, ◌+◌, List, [], ◌∷◌, ◌++◌, map, take, drop, length, sum, refl, ap, ◌∙◌, arith, length-append, append_assoc, suc, ◌<◌, get_or, sym, subst, ◌-◌, ◌≤◌, pos, replicate, append-nil}
 use Rattle.std.proofs.Math.Seq.{drop-append_seam, drop-cons, take-suc, take-append_seam}
-use Rattle.std.proofs.lemmas.List.{length-map, take_all, drop-drop, drop-replicate, length-replicate, length-take-le, map-append, drop_all}
+use Rattle.std.proofs.lemmas.List.{length-map, take_all, drop-drop, drop-replicate, length-replicate, length-take-le, map-append, drop_all, take-append-drop}
 use Rattle.std.specs.List.{AllByRecursion, flat_map}
 use Rattle.std.proofs.Math.Numerals.{add-one}
 use Rattle.std.proofs.lemmas.List.Sums.{sum_by-append, sum_by-cons}
@@ -17,13 +17,18 @@ use Rattle.czi_region.specs.declared.block.Region.{Region}
 use Rattle.czi_machine.proofs.Tiled.{All-both}
 use Rattle.czi_format.specs.Bytes.{i32_bytes, put_at}
 use Rattle.czi_format.specs.Contents.{directory_head}
-use Rattle.czi_plan.specs.Directory.{directory_size, entries_of, data_in}
+use Rattle.czi_plan.specs.Directory.{AreSizes, WritesEntries, directory_size, entries_of, data_in}
+use Rattle.czi_plan.specs.declared.tiles.Sizes.{Sizes}
 use Rattle.czi_plan.specs.Marks.{head_mark, patch_marks, pointer_mark}
 
+sum_both : (es fs : List Entry) → sum (map entry_len (es ++ fs)) ≡ sum (map entry_len es) + sum (map entry_len fs)
+sum_both es fs = ap sum (map-append entry_len es fs) ∙ sum_by-append (λ n. n) (map entry_len es) (map entry_len fs)
+
 pub size_of_both : (es fs : List Entry) → directory_size (es ++ fs) ≡ 128 + sum (map entry_len es) + sum (map entry_len fs)
-size_of_both es fs =
-    let both : sum (map entry_len (es ++ fs)) ≡ sum (map entry_len es) + sum (map entry_len fs) = ap sum (map-append entry_len es fs) ∙ sum_by-append (λ n. n) (map entry_len es) (map entry_len fs) in
-    omega (arith, both)
+size_of_both es fs = omega (arith, sum_both es fs)
+
+pub size_in_part : (front middle back : List Entry) → directory_size front + sum (map entry_len middle) ≤ directory_size (front ++ (middle ++ back))
+size_in_part front middle back = omega (arith, size_of_both front (middle ++ back), ap sum (map-append entry_len middle back), sum_by-append (λ n. n) (map entry_len middle) (map entry_len back))
 
 pub length-directory : length directory_id ≡ 16
 unfolding directory_id
@@ -31,6 +36,10 @@ length-directory = refl
 
 pub entries_length : (tiles : List Tile) → length (entries_of tiles) ≡ length tiles
 entries_length tiles = length-map tiles (λ (t : Tile). (tile_of t).entry)
+
+-- the sizes of three parts, summed
+pub sizes_total : (s : Sizes) (es fs gs : List Entry) → AreSizes s es fs gs → s.front + s.middle + s.back ≡ directory_size (es ++ (fs ++ gs))
+sizes_total s es fs gs are = omega (arith, sum_both es (fs ++ gs), sum_both fs gs, are.front_is, are.middle_is, are.back_is)
 
 -- the numbers of a patch
 pub patch_as : (old new : List Bytes) (at u u' n n' f f' : ℕ) (b b' : List ℕ) → new ≡ old ++ patch_marks at u n f b → u ≡ u' → n ≡ n' → f ≡ f' → b ≡ b' → new ≡ old ++ patch_marks at u' n' f' b'
@@ -64,12 +73,6 @@ drop_here xs i x h e = drop-cons xs i x h ∙ (ap (λ z. z ∷ drop (suc i) xs) 
 
 pub take_here : {X : Type 0} (xs : List X) (i : ℕ) (x : X) → i < length xs → x ≡ get_or xs i x → take (i + 1) xs ≡ take i xs ++ x ∷ []
 take_here xs i x h e = ap (λ n. take n xs) (add-one i) ∙ (take-suc xs i x h ∙ ap (λ z. take i xs ++ z ∷ []) (sym e))
-
--- what holds of each image holds of the one of an element
-pub all_at : {X Y : Type 0} (f : X → Y) (P : Y → Type 0) (xs : List X) (i : ℕ) (x : X) → AllByRecursion P (map f xs) → i < length xs → P (f (get_or xs i x))
-all_at f P [] i x a h = absurd (omega arith)
-all_at f P (y ∷ ys) zero x a h = a.0
-all_at f P (y ∷ ys) (suc i) x a h = all_at f P ys i x a.1 (omega arith)
 
 pub all_more : {X : Type 0} (P : X → Type 0) (xs : List X) (i : ℕ) (d : X) → i < length xs → AllByRecursion P (take i xs) → P (get_or xs i d) → AllByRecursion P (take (i + 1) xs)
 all_more P xs i d h all one = subst (λ n. AllByRecursion P (take n xs)) (sym (add-one i)) (subst (AllByRecursion P) (sym (take-suc xs i d h)) (All-both P (take i xs) (get_or xs i d ∷ []) all (one, tt)))
@@ -115,27 +118,36 @@ entry_next tiles i t at end k old out new h e low seam is own size =
           ∙ (ap (λ l. l ++ drop (end + k) old) (append_assoc (take at old) done new ∙ ap (λ l. take at old ++ l) (sym more)) ∙ append_assoc (take at old) (flat_map entry_bytes (entries_of (take (i + 1) tiles))) (drop (end + k) old)),
     )
 
--- the head and the entries, over zeros
-pub filled : (n : ℕ) (zeros head b1 o1 o2 : List ℕ) (es fs : List Entry) (s1 s2 : ℕ) → zeros ≡ replicate n 0 → head ≡ directory_head (length es + length fs) → length head ≡ 128
-    → b1 ≡ put_at zeros 0 head → o1 ≡ take 128 b1 ++ (flat_map entry_bytes es ++ drop (128 + s1) b1) → o2 ≡ take (128 + s1) o1 ++ (flat_map entry_bytes fs ++ drop (128 + s1 + s2) o1)
-    → length (flat_map entry_bytes es) ≡ s1 → s1 ≡ sum (map entry_len es) → s2 ≡ sum (map entry_len fs) → o2 ≡ data_in n (es ++ fs)
-filled n zeros head b1 o1 o2 es fs s1 s2 zeros_is head_is long b1_is o1_is o2_is len1 sum1 sum2 =
+-- entries written right behind others are written with them
+pub writes_both : (es fs : List Entry) (a b c : ℕ) (old one two : List ℕ) → a ≤ length old → WritesEntries es a b old one → WritesEntries fs b c one two → WritesEntries (es ++ fs) a c old two
+writes_both es fs a b c old one two low first second =
     let F : List ℕ = flat_map entry_bytes es in
     let G : List ℕ = flat_map entry_bytes fs in
+    let both : flat_map entry_bytes (es ++ fs) ≡ F ++ G = flat_map-append entry_bytes es fs in
+    let long : length (take a old ++ F) ≡ b = omega (arith, length-append (take a old) F, length-take-le a old low, first.size, first.ends) in
+    let more : c ≡ b + sum (map entry_len fs) = second.ends in
+    let over : take b one ++ (G ++ drop c one) ≡ ((take a old ++ F) ++ G) ++ drop c old
+    = ap (λ k. take b one ++ (G ++ drop k one)) more ∙ (next_bytes (take a old ++ F) old one G b (sum (map entry_len fs)) long (first.written ∙ sym (append_assoc (take a old) F (drop b old)))
+    ∙ ap (λ k. ((take a old ++ F) ++ G) ++ drop k old) (sym more)) in
+    record {
+      ends = omega (arith, first.ends, more, sum_both es fs);
+      entries = All-both IsEntry es fs first.entries second.entries;
+      size = omega (arith, ap length both, length-append F G, first.size, second.size, sum_both es fs);
+      written = second.written ∙ (over ∙ (ap (λ l. l ++ drop c old) (append_assoc (take a old) F G ∙ ap (λ l. take a old ++ l) (sym both)) ∙ append_assoc (take a old) (flat_map entry_bytes (es ++ fs)) (drop c old)));
+    }
+
+-- the head and the entries, over zeros
+pub filled : (n end : ℕ) (zeros head b1 out : List ℕ) (es : List Entry) → zeros ≡ replicate n 0 → head ≡ directory_head (length es) → length head ≡ 128
+    → b1 ≡ put_at zeros 0 head → WritesEntries es 128 end b1 out → out ≡ data_in n es
+filled n end zeros head b1 out es zeros_is head_is long b1_is writes =
+    let F : List ℕ = flat_map entry_bytes es in
+    let s : ℕ = sum (map entry_len es) in
     let behind_head : 0 + length head ≡ 128 = omega (arith, long) in
     let first : b1 ≡ head ++ drop 128 zeros = b1_is ∙ ap (λ k. take 0 zeros ++ (head ++ drop k zeros)) behind_head in
-    let second : o1 ≡ (head ++ F) ++ drop (128 + s1) zeros = o1_is ∙ next_bytes head zeros b1 F 128 s1 long first in
-    let third : o2 ≡ ((head ++ F) ++ G) ++ drop (128 + s1 + s2) zeros = o2_is ∙ next_bytes (head ++ F) zeros o1 G (128 + s1) s2 (omega (arith, length-append head F, long, len1)) second in
-    let rest : drop (128 + s1 + s2) zeros ≡ replicate (n - (128 + s1 + s2)) 0 = ap (λ l. drop (128 + s1 + s2) l) zeros_is ∙ drop-replicate (128 + s1 + s2) n 0 in
-    let size : directory_size (es ++ fs) ≡ 128 + s1 + s2 = omega (arith, sum_both es fs, sum1, sum2) in
-    let count : length (es ++ fs) ≡ length es + length fs = length-append es fs in
-    third ∙ (ap (λ l. ((head ++ F) ++ G) ++ l) (rest ∙ ap (λ k. replicate (n - k) 0) (sym size))
-    ∙ (append_assoc (head ++ F) G _ ∙ (append_assoc head F _ ∙ (ap (λ l. l ++ (F ++ (G ++ replicate (n - directory_size (es ++ fs)) 0))) (head_is ∙ ap directory_head (sym count))
-    ∙ (append_assoc (i32_bytes (pos (length (es ++ fs)))) (replicate 124 0) _
-    ∙ ap (λ l. i32_bytes (pos (length (es ++ fs))) ++ (replicate 124 0 ++ l)) (sym (append_assoc F G _) ∙ ap (λ l. l ++ replicate (n - directory_size (es ++ fs)) 0) (sym (flat_map-append entry_bytes es fs))))))))
-  where
-    sum_both : (xs ys : List Entry) → sum (map entry_len (xs ++ ys)) ≡ sum (map entry_len xs) + sum (map entry_len ys)
-    sum_both xs ys = ap sum (map-append entry_len xs ys) ∙ sum_by-append (λ n. n) (map entry_len xs) (map entry_len ys)
+    let second : out ≡ (head ++ F) ++ drop (128 + s) zeros = writes.written ∙ (ap (λ k. take 128 b1 ++ (F ++ drop k b1)) writes.ends ∙ next_bytes head zeros b1 F 128 s long first) in
+    let rest : drop (128 + s) zeros ≡ replicate (n - (128 + s)) 0 = ap (λ l. drop (128 + s) l) zeros_is ∙ drop-replicate (128 + s) n 0 in
+    second ∙ (ap (λ l. (head ++ F) ++ l) rest ∙ (append_assoc head F _ ∙ (ap (λ l. l ++ (F ++ replicate (n - (128 + s)) 0)) head_is
+    ∙ append_assoc (i32_bytes (pos (length es))) (replicate 124 0) _)))
 
 -- a piece at the end of the bytes put was written over
 pub over_last : (old put new data' : List ℕ) (at n : ℕ) → put ≡ old ++ replicate n 0 → at ≡ length old → new ≡ data' → take at put ++ (new ++ drop (at + n) put) ≡ old ++ data'
@@ -152,3 +164,9 @@ put_as end k n out new e = ap (λ m. take end out ++ (new ++ drop m (drop end ou
 pub all_here : (tiles : List Tile) (i : ℕ) (t : Tile) → i < length tiles → t ≡ get_or tiles i t → AllByRecursion IsEntry (entries_of (take i tiles)) → IsEntry (tile_of t).entry → AllByRecursion IsEntry (entries_of (take (i + 1) tiles))
 all_here tiles i t h e all one =
     subst (AllByRecursion IsEntry) (sym (ap entries_of (take_here tiles i t h e) ∙ map-append (λ (z : Tile). (tile_of z).entry) (take i tiles) (t ∷ []))) (All-both IsEntry (entries_of (take i tiles)) (entries_of (t ∷ [])) all (one, tt))
+
+-- the entries before a place, and those from it on
+pub split_len : (n : ℕ) (tiles : List Tile) → sum (map entry_len (entries_of (take n tiles))) + sum (map entry_len (entries_of (drop n tiles))) ≡ sum (map entry_len (entries_of tiles))
+split_len n tiles =
+    sym (sum_both (entries_of (take n tiles)) (entries_of (drop n tiles)))
+    ∙ ap (λ es. sum (map entry_len es)) (sym (map-append (λ (t : Tile). (tile_of t).entry) (take n tiles) (drop n tiles)) ∙ ap entries_of (take-append-drop n tiles))

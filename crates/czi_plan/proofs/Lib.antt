@@ -1,10 +1,14 @@
 pub mod Axes
+pub mod Searched
 pub mod Entries
 pub mod Order
 pub mod Touched
 pub mod Brief
-pub mod Removing
+pub mod Acts
+pub mod Parts
 pub mod Linking
-pub mod Removed
-pub mod Doing
+pub mod Changed
 pub mod Directing
+pub mod Doing
+pub mod Needs
+pub mod Brought

@@ -1,6 +1,6 @@
 -- The marks of a directory that lists other entries, and the links of a plan: they have no place in common, end within the length,
 -- and their record fits a slot of the journal.
-use Rattle.std.proofs.Common.{◌≡◌, ℕ, ◌+◌, ◌<◌, ◌≤◌, ◌^◌, List, [], ◌∷◌, ◌++◌, map, drop, get_or, length, refl, ap, sym, ◌∙◌, subst, arith, ◌-◌, ◌*◌, pos, filter, sum, true, false, Bool, Option, Some, None, inl, inr, length-append}
+use Rattle.std.proofs.Common.{◌≡◌, ℕ, ◌+◌, ◌<◌, ◌≤◌, ◌^◌, List, [], ◌∷◌, ◌++◌, map, drop, get_or, length, refl, ap, sym, ◌∙◌, subst, arith, ◌-◌, ◌*◌, pos, filter, sum, true, false, Bool, Option, Some, None, inl, inr, length-append, append-nil, nat_le}
 use Rattle.std.specs.Prelude.{sum_by}
 use Rattle.std.specs.List.{AllByRecursion, flat_map}
 use Rattle.std.specs.List.Sorted.{IsPermutation}
@@ -9,7 +9,7 @@ use Rattle.std.proofs.lemmas.List.Sorted.{IsPermutation-map, sum_by-IsPermutatio
 use Rattle.std.proofs.lemmas.Bool.{cases_Bool, cases_lt, and_parts, leb-true}
 use Rattle.std.proofs.lemmas.List.{length-drop, length-map, length-take-le, map-append}
 use Rattle.std.proofs.lemmas.List.Elements.{All-from_recursion}
-use Rattle.czi_format.specs.Segment.{deleted_id, Segment, directory_id, header_bytes}
+use Rattle.czi_format.specs.Segment.{deleted_id, Segment, directory_id, header_bytes, subblock_id}
 use Rattle.czi_format.specs.Span.{Span, span_le, sorted}
 use Rattle.czi_links.specs.Record.{Bytes, AreRising, next_place, end_of as link_end, EndWithin, encoded_len, spell_link}
 use Rattle.czi_machine.specs.Cover.{Chained, between, cover}
@@ -30,20 +30,32 @@ use Rattle.czi_machine.proofs.Clear.{heads_within}
 use Rattle.czi_machine.proofs.Cover.{cover-append, cover-sorted}
 use Rattle.czi_machine.proofs.NewSegment.{header_length}
 use Rattle.czi_num.specs.Span.{span_of}
-use Rattle.czi_num.specs.declared.span.Span.{Span as CodeSpan}
-use Rattle.czi_region.specs.Pieces.{IsPiece, bytes_put}
+use Rattle.czi_region.specs.Pieces.{IsPiece, bytes_put, bytes_of}
 use Rattle.czi_region.specs.declared.block.Piece.{Piece as Range}
 use Rattle.czi_region.specs.declared.block.Region.{Region}
 use Rattle.czi_plan.specs.Marks.{Mark, mark_of, IsSized, byte_span, ArePut, CanPut, AreInOrder, CanLink, IsMarked, deleted_mark, head_mark, is_new, patch_marks, pointer_mark, some_mark, wanted}
-use Rattle.czi_plan.proofs.Entries.{drop_here, size_of_both, length-directory}
+use Rattle.czi_plan.proofs.Entries.{drop_here, length-directory, size_in_part}
 use Rattle.czi_plan.proofs.Order.{sorted_chained, at_place}
 use Rattle.czi_plan.specs.Directory.{data_in, directory_size}
 use Rattle.czi_plan.specs.Geometry.{AreParts, IsLong}
 use Rattle.czi_plan.specs.Listing.{IsPlace, Lists}
-use Rattle.czi_plan.specs.Pieces.{bytes_in, piece_of}
+use Rattle.czi_plan.specs.Pieces.{bytes_in, piece_of, writes_of}
 use Rattle.czi_plan.specs.declared.plan.EditPlan.{EditPlan}
 use Rattle.czi_plan.proofs.Brief.{few_marks}
-use Rattle.czi_plan.proofs.Removing.{kept_of, length_by, pointers_of, used_by, written_dir}
+use Rattle.czi_plan.proofs.Parts.{AreFound, brought_found, directory_found, kept_of, length_after, length_by, parts_of, pointers_of, used_by, written_dir}
+use Rattle.czi_format.specs.Data.{subblock_data}
+use Rattle.czi_format.specs.Document.{Subblock}
+use Rattle.czi_format.proofs.Local.{All-append}
+use Rattle.czi_image.specs.Spans.{tile_span}
+use Rattle.czi_image.specs.View.{tile_of}
+use Rattle.czi_image.specs.declared.change.Act.{Act as CodeAct}
+use Rattle.czi_image.specs.declared.change.Act.TheVariants.{Out, Put, Into}
+use Rattle.czi_image.specs.declared.types.Tile.{Tile}
+use Rattle.czi_machine.specs.Change.{Change}
+use Rattle.czi_space.specs.State.{MapState}
+use Rattle.czi_plan.specs.Changing.{Brings, IsNew, IsStaged, all_left, back_entries, front_entries, middle_entries, new_marks, new_spans, range_after, size_after, space_behind}
+use Rattle.czi_plan.specs.Conditions.{IsMapOf}
+use Rattle.czi_plan.specs.Plan.{dead_of, usable_of}
 
 pub length-deleted : length deleted_id ≡ 16
 unfolding deleted_id
@@ -115,75 +127,116 @@ writes_by (New d) es = record { place = d.span.at + 32; bytes = data_in (d.span.
 abbrev pub segment_by : DirItem → List Entry → Segment
 segment_by d es = record { at = d.span.at; id = directory_id; allocated = d.span.len - 32; used = directory_size es }
 
-abbrev pub marks_by : Option DirItem → DirectoryChange → (front behind : List Entry) → List Bytes
-marks_by old Kept front behind = []
-marks_by None Patched front behind = []
-marks_by (Some d) Patched front behind = patch_marks d.span.at (directory_size (front ++ behind)) (length (front ++ behind)) (directory_size front) (flat_map entry_bytes behind)
-marks_by old (New d) front behind = pointer_mark 84 d.span.at ∷ head_mark (segment_by d (front ++ behind)) ∷ []
+abbrev pub marks_by : Option DirItem → DirectoryChange → (front middle back : List Entry) → List Bytes
+marks_by old Kept front middle back = []
+marks_by None Patched front middle back = []
+marks_by (Some d) Patched front middle back = patch_marks d.span.at (directory_size (front ++ (middle ++ back))) (length (front ++ (middle ++ back))) (directory_size front) (flat_map entry_bytes middle)
+marks_by old (New d) front middle back = pointer_mark 84 d.span.at ∷ head_mark (segment_by d (front ++ (middle ++ back))) ∷ []
 
 -- the entries that are written can be, and their bytes are as long as that
-abbrev pub AreWhole : DirectoryChange → (front behind : List Entry) → Type 0
-AreWhole Kept front behind = Unit {0}
-AreWhole Patched front behind = AllByRecursion IsEntry behind × (length (flat_map entry_bytes behind) ≡ sum (map entry_len behind))
-AreWhole (New d) front behind = AllByRecursion IsEntry (front ++ behind) × (length (data_in (d.span.len - 32) (front ++ behind)) ≡ d.span.len - 32)
+abbrev pub AreWhole : DirectoryChange → (front middle back : List Entry) → Type 0
+AreWhole Kept front middle back = Unit {0}
+AreWhole Patched front middle back = AllByRecursion IsEntry middle × (length (flat_map entry_bytes middle) ≡ sum (map entry_len middle))
+AreWhole (New d) front middle back = AllByRecursion IsEntry (front ++ (middle ++ back)) × (length (data_in (d.span.len - 32) (front ++ (middle ++ back))) ≡ d.span.len - 32)
 
--- What a plan has of it, which had nothing of it before.
-pub record Has (region : Region) (old : Option DirItem) (c : DirectoryChange) (front behind : List Entry) (n : ℕ) (p q : EditPlan) (marks : List Bytes) : Type 0 where
-  pub marks_are : marks ≡ marks_by old c front behind
-  pub writes : bytes_in region q.writes.items ≡ writes_by c (front ++ behind)
-  pub staged : AllByRecursion (λ (w : ℕ × Range). IsPiece region w.1) q.writes.items
-  pub used : map span_of q.used.items ≡ used_by c
-  pub length_is : q.length ≡ length_by c n
-  pub whole : AreWhole c front behind
-  pub change : q.change ≡ p.change
-  pub links : q.links ≡ p.links
-  pub freed : q.freed.items ≡ p.freed.items
-  pub held : q.held.items ≡ p.held.items
+-- What a plan has of it.
+pub record Has (region : Region) (old : Option DirItem) (c : DirectoryChange) (front middle back : List Entry) (p q : EditPlan) (before after : List Bytes) : Type 0 where
+  pub marks_are : after ≡ before ++ marks_by old c front middle back
+  pub writes : bytes_in region q.writes.items ≡ bytes_in region p.writes.items ++ writes_by c (front ++ (middle ++ back))
+  pub staged : AllByRecursion (λ (w : ℕ × Range). IsPiece region w.1) p.writes.items → AllByRecursion (λ (w : ℕ × Range). IsPiece region w.1) q.writes.items
+  pub used : map span_of q.used.items ≡ map span_of p.used.items ++ used_by c
+  pub length_is : q.length ≡ length_by c p.length
+  pub whole : AreWhole c front middle back
+  pub others : q ≡ record p { writes = q.writes; used = q.used; length = q.length }
 
 -- a plan that stays but for the marks
-has_same : (region : Region) (old : Option DirItem) (c : DirectoryChange) (front behind : List Entry) (n : ℕ) (p q : EditPlan) (marks : List Bytes) → p.writes.items ≡ [] → p.used.items ≡ [] → p.length ≡ length_by c n → writes_by c (front ++ behind) ≡ [] → used_by c ≡ [] → q ≡ p
-    → marks ≡ marks_by old c front behind → AreWhole c front behind → Has region old c front behind n p q marks
-has_same region old c front behind n p q marks no_writes no_used long none none' same are whole = subst (λ z. Has region old c front behind n p z marks) (sym same) (record {
+has_same : (region : Region) (old : Option DirItem) (c : DirectoryChange) (front middle back : List Entry) (p q : EditPlan) (before after : List Bytes) → length_by c p.length ≡ p.length → writes_by c (front ++ (middle ++ back)) ≡ [] → used_by c ≡ [] → q ≡ p
+    → after ≡ before ++ marks_by old c front middle back → AreWhole c front middle back → Has region old c front middle back p q before after
+has_same region old c front middle back p q before after long none none' same are whole = subst (λ z. Has region old c front middle back p z before after) (sym same) (record {
   marks_are = are;
-  writes = ap (bytes_in region) no_writes ∙ sym none;
-  staged = subst (AllByRecursion (λ (w : ℕ × Range). IsPiece region w.1)) (sym no_writes) tt;
-  used = ap (map span_of) no_used ∙ sym none';
-  length_is = long;
+  writes = sym (ap (λ l. bytes_in region p.writes.items ++ l) none ∙ append-nil (bytes_in region p.writes.items));
+  staged = λ all. all;
+  used = sym (ap (λ l. map span_of p.used.items ++ l) none' ∙ append-nil (map span_of p.used.items));
+  length_is = sym long;
   whole = whole;
-  change = refl;
-  links = refl;
-  freed = refl;
-  held = refl;
+  others = refl;
 })
 
-pub has_listed : (region : Region) (old : Option DirItem) (c : DirectoryChange) (front behind : List Entry) (n : ℕ) (p q : EditPlan) (marks : List Bytes) → p.writes.items ≡ [] → p.used.items ≡ [] → p.length ≡ n → Lists old c front behind region p q [] marks
-    → Has region old c front behind n p q marks
-has_listed region old Kept front behind n p q marks no_writes no_used long lists = has_same region old Kept front behind n p q marks no_writes no_used long refl refl lists.0 lists.1 tt
-has_listed region None Patched front behind n p q marks no_writes no_used long lists = absurd lists
-has_listed region (Some d) Patched front behind n p q marks no_writes no_used long lists = has_same region (Some d) Patched front behind n p q marks no_writes no_used long refl refl lists.0 lists.1.marks (lists.1.entries, lists.1.size)
-has_listed region old (New d) front behind n p q marks no_writes no_used long lists =
-    let writes : q.writes.items ≡ (d.span.at + 32, lists.piece) ∷ [] = lists.writes ∙ ap (λ (l : List (ℕ × Range)). l ++ (d.span.at + 32, lists.piece) ∷ []) no_writes in
-    record {
-      marks_are = lists.marks;
-      writes = ap (bytes_in region) writes ∙ ap (λ (b : List ℕ). let one : Bytes = record { place = d.span.at + 32; bytes = b } in one ∷ []) lists.bytes;
-      staged = subst (AllByRecursion (λ (w : ℕ × Range). IsPiece region w.1)) (sym writes) (lists.staged, tt);
-      used = ap (map span_of) (lists.used ∙ ap (λ (l : List CodeSpan). l ++ d.span ∷ []) no_used);
-      length_is = lists.end ∙ ap (length_by (New d)) long;
-      whole = (lists.entries, ap (length {A = ℕ}) (sym lists.bytes) ∙ (length-take-le lists.piece.len (drop lists.piece.at (bytes_put region)) (omega (arith, lists.staged, length-drop lists.piece.at (bytes_put region))) ∙ lists.long));
-      change = ap (λ (z : EditPlan). z.change) lists.others;
-      links = ap (λ (z : EditPlan). z.links) lists.others;
-      freed = ap (λ (z : EditPlan). z.freed.items) lists.others;
-      held = ap (λ (z : EditPlan). z.held.items) lists.others;
-    }
+-- how long the bytes of a piece are
+pub piece_length : (region : Region) (piece : Range) → IsPiece region piece → length (bytes_of region piece) ≡ piece.len
+piece_length region piece staged = length-take-le piece.len (drop piece.at (bytes_put region)) (omega (arith, staged, length-drop piece.at (bytes_put region)))
 
--- Its marks lie in the pointer to it, and in its extent.
-pub record OwnMarks (top : ℕ) (old : Option DirItem) (c : DirectoryChange) (front behind : List Entry) : Type 0 where
-  pub covers : (q : ℕ) → cover (map byte_span (writes_by c (front ++ behind))) q + cover (map byte_span (marks_by old c front behind)) q ≤ cover (pointers_of c) q + cover (written_dir c old) q
-  pub ends : AllByRecursion (λ (b : Bytes). b.place + length b.bytes ≤ top) (marks_by old c front behind)
-  pub count : length (marks_by old c front behind) ≤ 3
-  pub low : AllByRecursion (λ (b : Bytes). 84 ≤ b.place) (marks_by old c front behind)
-  pub some : AllByRecursion (λ (b : Bytes). 1 ≤ length b.bytes) (marks_by old c front behind)
-  pub few : sum_by (λ (b : Bytes). length b.bytes) (marks_by old c front behind) ≤ 131072
+pub has_listed : (region : Region) (old : Option DirItem) (c : DirectoryChange) (front middle back : List Entry) (p q : EditPlan) (before after : List Bytes) → Lists old c front middle back region p q before after → Has region old c front middle back p q before after
+has_listed region old Kept front middle back p q before after lists = has_same region old Kept front middle back p q before after refl refl refl lists.0 (lists.1 ∙ sym (append-nil before)) tt
+has_listed region None Patched front middle back p q before after lists = absurd lists
+has_listed region (Some d) Patched front middle back p q before after lists = has_same region (Some d) Patched front middle back p q before after refl refl refl lists.0 lists.1.marks (lists.1.entries, lists.1.size)
+has_listed region old (New d) front middle back p q before after lists = record {
+  marks_are = lists.marks;
+  writes = ap (bytes_in region) lists.writes ∙ (map-append _ p.writes.items ((d.span.at + 32, lists.piece) ∷ []) ∙ ap (λ (b : List ℕ). bytes_in region p.writes.items ++ (let one : Bytes = record { place = d.span.at + 32; bytes = b } in one ∷ [])) lists.bytes);
+  staged = λ all. subst (AllByRecursion (λ (w : ℕ × Range). IsPiece region w.1)) (sym lists.writes) (All-both (λ (w : ℕ × Range). IsPiece region w.1) p.writes.items ((d.span.at + 32, lists.piece) ∷ []) all (lists.staged, tt));
+  used = ap (map span_of) lists.used ∙ map-append span_of p.used.items (d.span ∷ []);
+  length_is = lists.end;
+  whole = (lists.entries, ap (length {A = ℕ}) (sym lists.bytes) ∙ (piece_length region lists.piece lists.staged ∙ lists.long));
+  others = lists.others;
+}
+
+-- Some writes and marks: they lie in some spans, end at or below a place, and are few.
+pub record OwnMarks (top count size : ℕ) (ws own : List Bytes) (spans : List Span) : Type 0 where
+  pub covers : (q : ℕ) → cover (map byte_span ws) q + cover (map byte_span own) q ≤ cover spans q
+  pub ends : AllByRecursion (λ (b : Bytes). b.place + length b.bytes ≤ top) own
+  pub low : AllByRecursion (λ (b : Bytes). 84 ≤ b.place) own
+  pub some : AllByRecursion (λ (b : Bytes). 1 ≤ length b.bytes) own
+  pub few : length own ≤ count
+  pub short : sum_by (λ (b : Bytes). length b.bytes) own ≤ size
+
+pub both_cover : (xs ys : List Bytes) (q : ℕ) → cover (map byte_span (xs ++ ys)) q ≡ cover (map byte_span xs) q + cover (map byte_span ys) q
+both_cover xs ys q = ap (λ l. cover l q) (map-append byte_span xs ys) ∙ cover-append (map byte_span xs) (map byte_span ys) q
+
+pub both_marks : {top c c' n n' : ℕ} {ws ws' own own' : List Bytes} {s s' : List Span} → OwnMarks top c n ws own s → OwnMarks top c' n' ws' own' s' → OwnMarks top (c + c') (n + n') (ws ++ ws') (own ++ own') (s ++ s')
+both_marks {top = top} {ws = ws} {ws' = ws'} {own = own} {own' = own'} {s = s} {s' = s'} a b = record {
+  covers = λ q. omega (arith, both_cover ws ws' q, both_cover own own' q, cover-append s s' q, a.covers q, b.covers q);
+  ends = All-both (λ (z : Bytes). z.place + length z.bytes ≤ top) own own' a.ends b.ends;
+  low = All-both (λ (z : Bytes). 84 ≤ z.place) own own' a.low b.low;
+  some = All-both (λ (z : Bytes). 1 ≤ length z.bytes) own own' a.some b.some;
+  few = omega (arith, length-append own own', a.few, b.few);
+  short = omega (arith, sum_by-append (λ (z : Bytes). length z.bytes) own own', a.short, b.short);
+}
+
+no_marks : (top count size : ℕ) → OwnMarks top count size [] [] []
+no_marks top count size = record { covers = λ q. omega arith; ends = tt; low = tt; some = tt; few = omega arith; short = omega arith }
+
+-- a new subblock: its data, and its header
+pub length-subblock : length subblock_id ≡ 16
+unfolding subblock_id
+length-subblock = refl
+
+pub tile_writes : (region : Region) (s : Subblock) (t : Tile) (writes : List (ℕ × Range)) (staged : IsStaged region s t writes) → bytes_in region writes ≡ record { place = t.span.at + 32; bytes = subblock_data (tile_of t).entry s staged.padding } ∷ []
+tile_writes region s t writes staged = ap (bytes_in region) staged.only ∙ ap (λ (b : List ℕ). let one : Bytes = record { place = t.span.at + 32; bytes = b } in one ∷ []) staged.bytes
+
+pub tile_long : (region : Region) (s : Subblock) (t : Tile) (writes : List (ℕ × Range)) (staged : IsStaged region s t writes) → length (subblock_data (tile_of t).entry s staged.padding) ≡ t.head.allocated
+tile_long region s t writes staged = omega (arith, ap (length {A = ℕ}) staged.bytes, piece_length region staged.piece staged.staged, staged.long, t.extent)
+
+tile_marks : (x : Index) (m : MapState) (region : Region) (s : Subblock) (t : Tile) (writes : List (ℕ × Range)) (top : ℕ) → IsNew x m s t → IsStaged region s t writes → IsLong top (tile_span t)
+    → OwnMarks top 1 32 (bytes_in region writes) (head_mark (tile_of t).segment ∷ []) (tile_span t ∷ [])
+tile_marks x m region s t writes top new staged long =
+    let is : length (header_bytes (tile_of t).segment) ≡ 32 = header_length (tile_of t).segment (ap (length {A = ℕ}) new.item.id ∙ length-subblock) in
+    let data' = tile_long region s t writes staged in
+    let far = long.far in
+    let within = long.ends in
+    rw (tile_writes region s t writes staged) (record {
+      covers = λ q. omega (arith, at_place, is, data', t.extent);
+      ends = (omega (arith, is, within, t.extent), tt);
+      low = (omega (arith, far), tt);
+      some = (omega (arith, is), tt);
+      few = omega arith;
+      short = omega (arith, sum_by-cons (λ (b : Bytes). length b.bytes) (head_mark (tile_of t).segment) [], is);
+    })
+
+pub brought_marks : (x : Index) (m : MapState) (region : Region) (a : CodeAct Tile) (c : Change Subblock) (writes : List (ℕ × Range)) (top : ℕ) → Brings x m region a c writes → AllByRecursion (IsLong top) (new_spans a)
+    → OwnMarks top 1 32 (bytes_in region writes) (new_marks a) (new_spans a)
+brought_marks x m region (Out i) c writes top b long = subst (λ w. OwnMarks top 1 32 (bytes_in region w) [] []) (sym b.1) (no_marks top 1 32)
+brought_marks x m region (Put i t) c writes top b long = tile_marks x m region b.0 t writes top b.2 b.3 long.0
+brought_marks x m region (Into i t) c writes top b long = tile_marks x m region b.0 t writes top b.2 b.3 long.0
 
 pub some_cover : (place : ℕ) (bytes : List ℕ) (q : ℕ) → cover (map byte_span (some_mark place bytes)) q ≡ between place (place + length bytes) q
 some_cover place [] q = omega (arith, at_place)
@@ -197,41 +250,50 @@ some_size : (place : ℕ) (bytes : List ℕ) → (length (some_mark place bytes)
 some_size place [] = (omega arith, refl)
 some_size place (b ∷ bytes) = (omega arith, omega (arith, sum_by-cons (λ (c : Bytes). length c.bytes) (record { place = place; bytes = b ∷ bytes }) []))
 
-pub own_marks : (x : Index) (old : Option DirItem) (c : DirectoryChange) (front behind : List Entry) (space : Space) {n top : ℕ} {freed dead es : List Span} → AreParts n top (used_by c) freed dead (kept_of c old) es
-    → IsPlace x old (directory_size (front ++ behind)) (sum (map entry_len behind)) space c → AreWhole c front behind → OwnMarks top old c front behind
-own_marks x old Kept front behind space parts place whole = absurd place
-own_marks x None Patched front behind space parts place whole = absurd (let clash : false ≡ true = place in cc (clash))
-own_marks x (Some d) Patched front behind space {top = top} parts place whole =
-    let room : 32 + directory_size (front ++ behind) ≤ d.span.len = leb-true _ _ (and_parts _ _ place).0 in
-    let range : sum (map entry_len behind) ≤ 65536 = leb-true _ _ (and_parts _ _ place).1 in
-    let size : directory_size (front ++ behind) ≡ 128 + sum (map entry_len front) + sum (map entry_len behind) = size_of_both front behind in
-    let bytes : List ℕ = flat_map entry_bytes behind in
+-- a directory: its data, its header and the pointer to it, or what of it is changed in place
+pub dir_marks : (x : Index) (old : Option DirItem) (c : DirectoryChange) (front middle back : List Entry) (space : Space) (top : ℕ) → AllByRecursion (IsLong top) (used_by c) → AllByRecursion (IsLong top) (kept_of c old)
+    → IsPlace x old (directory_size (front ++ (middle ++ back))) (sum (map entry_len middle)) space c → AreWhole c front middle back
+    → OwnMarks top 3 131072 (writes_by c (front ++ (middle ++ back))) (marks_by old c front middle back) (pointers_of c ++ written_dir c old)
+dir_marks x old Kept front middle back space top used kept place whole = absurd place
+dir_marks x None Patched front middle back space top used kept place whole = absurd (let clash : false ≡ true = place in cc (clash))
+dir_marks x (Some d) Patched front middle back space top used kept place whole =
+    let all : List Entry = front ++ (middle ++ back) in
+    let test = and_parts (nat_le (32 + directory_size all) d.span.len) (nat_le (sum (map entry_len middle)) 65536) place in
+    let room : 32 + directory_size all ≤ d.span.len = leb-true _ _ test.0 in
+    let range : sum (map entry_len middle) ≤ 65536 = leb-true _ _ test.1 in
+    let size : directory_size front + sum (map entry_len middle) ≤ directory_size all = size_in_part front middle back in
+    let bytes : List ℕ = flat_map entry_bytes middle in
     let at : ℕ = d.span.at + 32 + directory_size front in
-    let one : Bytes = record { place = d.span.at + 24; bytes = i64_bytes (pos (directory_size (front ++ behind))) } in
-    let two : Bytes = record { place = d.span.at + 32; bytes = i32_bytes (pos (length (front ++ behind))) } in
-    let far = parts.kept_long.0.far in
-    let within = parts.kept_long.0.ends in
+    let one : Bytes = record { place = d.span.at + 24; bytes = i64_bytes (pos (directory_size all)) } in
+    let two : Bytes = record { place = d.span.at + 32; bytes = i32_bytes (pos (length all)) } in
+    let far = kept.0.far in
+    let within = kept.0.ends in
     record {
       covers = λ q. omega (arith, at_place, some_cover at bytes q, whole.1, size, room);
       ends = (omega (arith, within, size, room), (omega (arith, within, size, room), some_all (λ (b : Bytes). b.place + length b.bytes ≤ top) at bytes (λ h. omega (arith, within, size, whole.1, room))));
-      count = omega (arith, (some_size at bytes).0);
       low = (omega (arith, far), (omega (arith, far), some_all (λ (b : Bytes). 84 ≤ b.place) at bytes (λ h. omega (arith, far))));
       some = (omega arith, (omega arith, some_all (λ (b : Bytes). 1 ≤ length b.bytes) at bytes (λ h. h)));
-      few = omega (arith, sum_by-cons (λ (b : Bytes). length b.bytes) one (two ∷ some_mark at bytes), sum_by-cons (λ (b : Bytes). length b.bytes) two (some_mark at bytes), (some_size at bytes).1, whole.1, range);
+      few = omega (arith, (some_size at bytes).0);
+      short = omega (arith, sum_by-cons (λ (b : Bytes). length b.bytes) one (two ∷ some_mark at bytes), sum_by-cons (λ (b : Bytes). length b.bytes) two (some_mark at bytes), (some_size at bytes).1, whole.1, range);
     }
-own_marks x old (New d) front behind space parts place whole =
-    let long : length (header_bytes (segment_by d (front ++ behind))) ≡ 32 = header_length (segment_by d (front ++ behind)) length-directory in
-    let two : Bytes = head_mark (segment_by d (front ++ behind)) in
-    let far = parts.used_long.0.far in
-    let within = parts.used_long.0.ends in
+dir_marks x old (New d) front middle back space top used kept place whole =
+    let all : List Entry = front ++ (middle ++ back) in
+    let long : length (header_bytes (segment_by d all)) ≡ 32 = header_length (segment_by d all) length-directory in
+    let two : Bytes = head_mark (segment_by d all) in
+    let far = used.0.far in
+    let within = used.0.ends in
     record {
       covers = λ q. omega (arith, at_place, long, whole.1, d.long);
       ends = (omega (arith, far, within, d.long), (omega (arith, within, long, d.long), tt));
-      count = omega arith;
       low = (omega arith, (omega (arith, far), tt));
       some = (omega arith, (omega (arith, long), tt));
-      few = omega (arith, sum_by-cons (λ (b : Bytes). length b.bytes) (pointer_mark 84 d.span.at) (two ∷ []), sum_by-cons (λ (b : Bytes). length b.bytes) two [], long);
+      few = omega arith;
+      short = omega (arith, sum_by-cons (λ (b : Bytes). length b.bytes) (pointer_mark 84 d.span.at) (two ∷ []), sum_by-cons (λ (b : Bytes). length b.bytes) two [], long);
     }
+
+-- the entries of a directory after an act
+abbrev pub all_entries : CodeAct Tile → Index → List Entry
+all_entries a x = front_entries a x.tiles.items ++ (middle_entries a x.tiles.items ++ back_entries a x.tiles.items)
 
 -- headers of DELETED segments
 pub head_long : (s : Span) → length (header_bytes (deleted_segment s)) ≡ 32
@@ -278,26 +340,26 @@ spelled : (ls : List Bytes) → length (flat_map spell_link ls) ≡ 12 * length 
 spelled [] = refl
 spelled (l ∷ ls) = omega (arith, length-append (spell_link l) (flat_map spell_link ls), length-spell_link l, spelled ls, sum_by-cons (λ (b : Bytes). length b.bytes) l ls)
 
+-- Writes and marks that lie in the pointers of the file header, in what is used, and in what is changed in place.
+pub record AreOwn (top : ℕ) (used kept : List Span) (ws own : List Bytes) : Type 0 where
+  pub spans : List Span
+  pub marks : OwnMarks top 4 131104 ws own spans
+  pub within : (q : ℕ) → cover spans q ≤ between 84 92 q + (cover used q + cover kept q)
+
 -- the links of a plan
-module _ {n top : ℕ} {old : Option DirItem} {c : DirectoryChange} {front behind : List Entry} {freed dead es : List Span} (parts : AreParts n top (used_by c) freed dead (kept_of c old) es) (own : OwnMarks top old c front behind) where
-  abbrev ws : List Bytes
-  ws = writes_by c (front ++ behind)
-
-  abbrev mine : List Bytes
-  mine = marks_by old c front behind
-
+module _ {n top : ℕ} {used freed dead kept es : List Span} {ws mine : List Bytes} (parts : AreParts n top used freed dead kept es) (own : AreOwn top used kept ws mine) where
   abbrev news : List Span
-  news = filter (is_new es) (deleted_after (used_by c) freed es)
+  news = filter (is_new es) (deleted_after used freed es)
 
   abbrev all : List Bytes
-  all = wanted mine (used_by c) freed dead es
+  all = wanted mine used freed dead es
 
   each : (P : Bytes → Type 0) → AllByRecursion P mine → ((s : Span) → IsLong top s → P (deleted_mark s)) → AllByRecursion P all
   each P of_mine of_head =
       All-both P mine _ of_mine (All-both P (map deleted_mark news) (map deleted_mark dead) (map-All deleted_mark P news (All-weaken (IsLong top) _ of_head news (All-filter (IsLong top) (is_new es) _ parts.after_long)))
       (map-All deleted_mark P dead (All-weaken (IsLong top) _ of_head dead parts.dead_long)))
 
-  sizes : (sum_by (λ (b : Bytes). length b.bytes) all ≤ 131072 + 32 * 6) × (length all ≤ 9)
+  sizes : (sum_by (λ (b : Bytes). length b.bytes) all ≤ 131104 + 32 * 6) × (length all ≤ 10)
   sizes = (
     omega (
       arith,
@@ -305,9 +367,9 @@ module _ {n top : ℕ} {old : Option DirItem} {c : DirectoryChange} {front behin
       sum_by-append (λ (b : Bytes). length b.bytes) (map deleted_mark news) (map deleted_mark dead),
       heads_sum news,
       heads_sum dead,
-      few_marks n (used_by c) freed es parts.rise parts.takes,
+      few_marks n used freed es parts.rise parts.takes,
       parts.few,
-      own.few,
+      own.marks.short,
     ),
     omega (
       arith,
@@ -315,32 +377,24 @@ module _ {n top : ℕ} {old : Option DirItem} {c : DirectoryChange} {front behin
       length-append (map deleted_mark news) (map deleted_mark dead),
       length-map news deleted_mark,
       length-map dead deleted_mark,
-      few_marks n (used_by c) freed es parts.rise parts.takes,
+      few_marks n used freed es parts.rise parts.takes,
       parts.few,
-      own.count,
+      own.marks.few,
     ),
   )
-
-  within : (q : ℕ) → cover (pointers_of c) q + cover (written_dir c old) q ≤ between 84 92 q + (cover (used_by c) q + cover (kept_of c old) q)
-  within q = by c
-    where
-      by : (c : DirectoryChange) → cover (pointers_of c) q + cover (written_dir c old) q ≤ between 84 92 q + (cover (used_by c) q + cover (kept_of c old) q)
-      by Kept = omega arith
-      by Patched = omega arith
-      by (New d) = omega arith
 
   -- no place is marked twice, nor where something is written
   pub marks_once : (q : ℕ) → cover (map byte_span ws) q + cover (map byte_span all) q ≤ 1
   marks_once q =
       let new = heads_within news q (is_32 top news (All-filter (IsLong top) (is_new es) _ parts.after_long)) in
       let gone = heads_within dead q (is_32 top dead parts.dead_long) in
-      let fewer = cover-fewer (is_new es) (deleted_after (used_by c) freed es) q in
+      let fewer = cover-fewer (is_new es) (deleted_after used freed es) q in
       elim (cases_lt q 112) [
-        | inl h ↦ omega (arith, at_place, wanted_cover mine (used_by c) freed dead es q, new, gone, fewer, own.covers q, within q, low_none top q _ parts.used_long h, low_none top q _ parts.kept_long h, low_none top q dead parts.dead_long h, low_none top q _ parts.after_long h)
-        | inr h ↦ omega (arith, at_place, wanted_cover mine (used_by c) freed dead es q, new, gone, fewer, own.covers q, within q, parts.once q)
+        | inl h ↦ omega (arith, at_place, wanted_cover mine used freed dead es q, new, gone, fewer, own.marks.covers q, own.within q, low_none top q _ parts.used_long h, low_none top q _ parts.kept_long h, low_none top q dead parts.dead_long h, low_none top q _ parts.after_long h)
+        | inr h ↦ omega (arith, at_place, wanted_cover mine used freed dead es q, new, gone, fewer, own.marks.covers q, own.within q, parts.once q)
       ]
 
-  pub can_link : CanLink n (used_by c) freed dead es mine
+  pub can_link : CanLink n used freed dead es mine
   can_link =
       let marked : (s : Span) → IsLong top s → IsMarked s = λ s l. (l.long, omega (arith, l.ends, parts.small)) in
       record {
@@ -349,20 +403,72 @@ module _ {n top : ℕ} {old : Option DirItem} {c : DirectoryChange} {front behin
         long = All-weaken (IsLong top) IsMarked marked _ parts.after_long;
         long_dead = All-weaken (IsLong top) IsMarked marked dead parts.dead_long;
         puts = record {
-          low = each (λ (b : Bytes). 84 ≤ b.place) own.low (λ s l. omega (arith, l.far));
-          some = each (λ (b : Bytes). 1 ≤ length b.bytes) own.some (λ s l. omega (arith, head_long s));
+          low = each (λ (b : Bytes). 84 ≤ b.place) own.marks.low (λ s l. omega (arith, l.far));
+          some = each (λ (b : Bytes). 1 ≤ length b.bytes) own.marks.some (λ s l. omega (arith, head_long s));
           once = λ q. omega (arith, marks_once q);
           few = omega (arith, sizes.0);
         };
       }
 
-  pub links_within : (links : List Bytes) → AreInOrder mine (used_by c) freed dead es links → EndWithin top links
+  pub links_within : (links : List Bytes) → AreInOrder mine used freed dead es links → EndWithin top links
   links_within links are =
-      All-from_recursion (λ (l : Bytes). link_end l ≤ top) links (all_moved (λ (b : Bytes). b.place + length b.bytes ≤ top) all links are.moved (each (λ (b : Bytes). b.place + length b.bytes ≤ top) own.ends (λ s l. omega (arith, head_long s, l.long, l.ends))))
+      All-from_recursion (λ (l : Bytes). link_end l ≤ top) links (all_moved (λ (b : Bytes). b.place + length b.bytes ≤ top) all links are.moved (each (λ (b : Bytes). b.place + length b.bytes ≤ top) own.marks.ends (λ s l. omega (arith, head_long s, l.long, l.ends))))
 
-  pub links_brief : (links : List Bytes) → AreInOrder mine (used_by c) freed dead es links → encoded_len links ≤ 262144
+  pub links_brief : (links : List Bytes) → AreInOrder mine used freed dead es links → encoded_len links ≤ 262144
   links_brief links are = omega (arith, spelled links, sum_by-IsPermutation (λ (b : Bytes). length b.bytes) all links are.moved, length_permutation all links are.moved, sizes.0, sizes.1)
 
-  pub pieces_once : (links : List Bytes) (q : ℕ) → AreInOrder mine (used_by c) freed dead es links → cover (map piece_span (map piece_of (ws ++ links))) q ≤ 1
-  pieces_once links q are =
-      omega (arith, ap (λ l. cover l q) (spans_are (ws ++ links) ∙ map-append byte_span ws links), cover-append (map byte_span ws) (map byte_span links) q, ap (λ l. cover l q) are.sorts, cover-sorted (map byte_span all) q, marks_once q)
+  pub pieces_once : (links : List Bytes) (q : ℕ) → AreInOrder mine used freed dead es links → cover (map piece_span (map piece_of (ws ++ links))) q ≤ 1
+  pieces_once links q are = omega (arith, ap (λ l. cover l q) (spans_are (ws ++ links)), both_cover ws links q, ap (λ l. cover l q) are.sorts, cover-sorted (map byte_span all) q, marks_once q)
+
+-- The marks of an act: those of what it brings, and those of the directory.
+pub record ActMarks (x : Index) (m : MapState) (a : CodeAct Tile) (region : Region) (d : DirectoryChange) (first mid : EditPlan) (marks : List Bytes) : Type 0 where
+  pub found : AreFound m.length m.held m.extents (new_spans a ++ used_by d)
+  pub listed : Has region x.directory d (front_entries a x.tiles.items) (middle_entries a x.tiles.items) (back_entries a x.tiles.items) first mid (new_marks a) marks
+  pub brought : OwnMarks (length_after a d m) 1 32 (writes_of region first) (new_marks a) (new_spans a)
+  pub listing : OwnMarks (length_after a d m) 3 131072 (writes_by d (all_entries a x)) (marks_by x.directory d (front_entries a x.tiles.items) (middle_entries a x.tiles.items) (back_entries a x.tiles.items)) (pointers_of d ++ written_dir d x.directory)
+  pub parts : AreParts m.length (length_after a d m) (new_spans a ++ used_by d) (sorted span_le (usable_of (all_left a d x))) (dead_of (all_left a d x)) (kept_of d x.directory) m.extents
+  pub own : AreOwn (length_after a d m) (new_spans a ++ used_by d) (kept_of d x.directory) (writes_of region first ++ writes_by d (all_entries a x)) marks
+
+own_within : (u : List Span) (c : DirectoryChange) (old : Option DirItem) (q : ℕ) → cover (u ++ (pointers_of c ++ written_dir c old)) q ≤ between 84 92 q + (cover (u ++ used_by c) q + cover (kept_of c old) q)
+own_within u c old q = omega (arith, cover-append u (pointers_of c ++ written_dir c old) q, cover-append u (used_by c) q, by c)
+  where
+    by : (c : DirectoryChange) → cover (pointers_of c ++ written_dir c old) q ≤ between 84 92 q + (cover (used_by c) q + cover (kept_of c old) q)
+    by Kept = omega arith
+    by Patched = omega arith
+    by (New d) = omega arith
+
+pub act_marks : (x : Index) (m : MapState) (a : CodeAct Tile) (c : Change Subblock) (region : Region) (d : DirectoryChange) (first mid : EditPlan) (marks : List Bytes) → IsMapOf x m → Brings x m region a c first.writes.items
+    → IsPlace x x.directory (size_after a x) (range_after a x) (space_behind a m) d → Lists x.directory d (front_entries a x.tiles.items) (middle_entries a x.tiles.items) (back_entries a x.tiles.items) region first mid (new_marks a) marks
+    → ActMarks x m a region d first mid marks
+act_marks x m a c region d first mid marks is brings place lists =
+    let top : ℕ = length_after a d m in
+    let front : List Entry = front_entries a x.tiles.items in
+    let middle : List Entry = middle_entries a x.tiles.items in
+    let back : List Entry = back_entries a x.tiles.items in
+    let found = directory_found x m x.directory (size_after a x) (range_after a x) (new_spans a) d is (brought_found x m region a c first.writes.items is brings) place in
+    let has = has_listed region x.directory d front middle back first mid (new_marks a) marks lists in
+    let parts = parts_of x m a d is found in
+    let long = All-append (IsLong top) (new_spans a) (used_by d) parts.used_long in
+    let brought = brought_marks x m region a c first.writes.items top brings long.0 in
+    let listing = dir_marks x x.directory d front middle back (space_behind a m) top long.1 parts.kept_long place has.whole in
+    record {
+      found = found;
+      listed = has;
+      brought = brought;
+      listing = listing;
+      parts = parts;
+      own = record {
+        spans = new_spans a ++ (pointers_of d ++ written_dir d x.directory);
+        marks = subst (λ l. OwnMarks top 4 131104 (writes_of region first ++ writes_by d (all_entries a x)) l (new_spans a ++ (pointers_of d ++ written_dir d x.directory))) (sym has.marks_are) (both_marks brought listing);
+        within = own_within (new_spans a) d x.directory;
+      };
+    }
+
+-- So the links of an act can be put.
+pub act_links : (x : Index) (m : MapState) (a : CodeAct Tile) (c : Change Subblock) (region : Region) (d : DirectoryChange) (first mid : EditPlan) (marks : List Bytes) → IsMapOf x m → Brings x m region a c first.writes.items
+    → map span_of first.used.items ≡ new_spans a → IsPlace x x.directory (size_after a x) (range_after a x) (space_behind a m) d
+    → Lists x.directory d (front_entries a x.tiles.items) (middle_entries a x.tiles.items) (back_entries a x.tiles.items) region first mid (new_marks a) marks
+    → CanLink m.length (map span_of mid.used.items) (sorted span_le (usable_of (all_left a d x))) (dead_of (all_left a d x)) m.extents marks
+act_links x m a c region d first mid marks is brings used place lists =
+    let has = act_marks x m a c region d first mid marks is brings place lists in
+    rw (has.listed.used ∙ ap (λ l. l ++ used_by d) used) (can_link has.parts has.own)

@@ -11,12 +11,12 @@ use Rattle.czi_machine.specs.Grouped.{FitAll, fit_all}
 use Rattle.czi_machine.specs.InOrder.{LiesInOrder, needs_of}
 use Rattle.czi_machine.specs.Places.{edit_next, laid, space_of}
 use Rattle.czi_machine.specs.Planned.{Plans}
-use Rattle.czi_machine.specs.State.{State}
+use Rattle.czi_machine.specs.State.{State, item_places, item_spans, items_of, not_among}
 use Rattle.czi_region.specs.declared.block.Region.{Region}
 use Rattle.czi_space.specs.State.{MapState}
 use Rattle.czi_plan.specs.Conditions.{LiesIn}
 use Rattle.czi_plan.specs.Pieces.{pieces_of}
-use Rattle.czi_plan.specs.Plan.{extents_after, used_of}
+use Rattle.czi_plan.specs.Plan.{extents_after, left_items, used_of}
 use Rattle.czi_plan.specs.declared.plan.EditPlan.{EditPlan}
 use Rattle.czi_plan.specs.declared.plan.PlanFault.{PlanFault}
 use Rattle.czi_plan.specs.declared.plan.PlanFault.TheVariants.{Full as Filled, Memory}
@@ -34,6 +34,8 @@ pub record DoesIn (image : List ℕ) (live : Live) (s : State) (x : Index) (regi
   pub order : LiesInOrder s e (turn_of p.change x) (used_of p)
   pub goes : laid s (edit_next s e) ≡ Ok (layout_by p s)
   pub plans : Plans image s.layout (layout_by p s) live e (turn_of p.change x) (pieces_of region p)
+  -- the items of the state that aren't live afterwards are those that leave
+  pub leaves : not_among (item_spans (items_of (layout_by p s))) (item_places (items_of s.layout)) ≡ left_items p.change x
 
 -- so it is on every state that lies in the index and the map
 abbrev pub Does : Index → MapState → Region → EditPlan → DocumentEffect → Type 0

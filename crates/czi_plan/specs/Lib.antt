@@ -8,4 +8,5 @@ pub mod Marks
 pub mod Listing
 pub mod Plan
 pub mod Does
-pub mod Removal
+pub mod Changing
+pub mod Bringing

@@ -47,11 +47,11 @@ IsReady None size room Patched = ⊥
 IsReady (Some d) size room Patched = has_room d size
 IsReady old size room (New d) = has_room d size × (d.span.len - 32 ≤ room)
 
--- The marks of a directory that lies where it lay: the entries behind are written.
-pub record Patches (d : DirItem) (before behind : List Entry) (old new : List Bytes) : Type 0 where
-  pub marks : new ≡ old ++ patch_marks d.span.at (directory_size (before ++ behind)) (length (before ++ behind)) (directory_size before) (flat_map entry_bytes behind)
-  pub entries : AllByRecursion IsEntry behind
-  pub size : length (flat_map entry_bytes behind) ≡ sum (map entry_len behind)
+-- The marks of a directory that lies where it lay: of its entries those in the middle are written.
+pub record Patches (d : DirItem) (front middle back : List Entry) (old new : List Bytes) : Type 0 where
+  pub marks : new ≡ old ++ patch_marks d.span.at (directory_size (front ++ (middle ++ back))) (length (front ++ (middle ++ back))) (directory_size front) (flat_map entry_bytes middle)
+  pub entries : AllByRecursion IsEntry middle
+  pub size : length (flat_map entry_bytes middle) ≡ sum (map entry_len middle)
 
 -- A new directory: one write of its data, its header, and the pointer to it.
 pub record Writes (d : DirItem) (es : List Entry) (region : Region) (old new : EditPlan) (before after : List Bytes) : Type 0 where
@@ -66,8 +66,12 @@ pub record Writes (d : DirItem) (es : List Entry) (region : Region) (old new : E
   pub others : new ≡ record old { writes = new.writes; used = new.used; length = new.length }
   pub marks : after ≡ before ++ pointer_mark 84 d.span.at ∷ head_mark (record { at = d.span.at; id = directory_id; allocated = d.span.len - 32; used = directory_size es }) ∷ []
 
-abbrev pub Lists : Option DirItem → DirectoryChange → (before behind : List Entry) → Region → (old new : EditPlan) → (marks_before marks_after : List Bytes) → Type 0
-Lists was Kept before behind region old new marks more = (new ≡ old) × (more ≡ marks)
-Lists None Patched before behind region old new marks more = ⊥
-Lists (Some d) Patched before behind region old new marks more = (new ≡ old) × Patches d before behind marks more
-Lists was (New d) before behind region old new marks more = Writes d (before ++ behind) region old new marks more
+abbrev pub Lists : Option DirItem → DirectoryChange → (front middle back : List Entry) → Region → (old new : EditPlan) → (marks_before marks_after : List Bytes) → Type 0
+Lists was Kept front middle back region old new marks more = (new ≡ old) × (more ≡ marks)
+Lists None Patched front middle back region old new marks more = ⊥
+Lists (Some d) Patched front middle back region old new marks more = (new ≡ old) × Patches d front middle back marks more
+Lists was (New d) front middle back region old new marks more = Writes d (front ++ (middle ++ back)) region old new marks more
+
+-- the pieces that there were are still ones, and have the bytes that they had
+abbrev pub KeepsPut : Region → Region → Type 0
+KeepsPut old new = (p : Range) → IsPiece old p → IsPiece new p × (bytes_of new p ≡ bytes_of old p)

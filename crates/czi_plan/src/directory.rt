@@ -1,30 +1,18 @@
-//! New directories.
+//! The bytes of directories.
 
-ghost use Rattle.std.specs.Prelude.{◌≡◌, ◌+◌, ◌*◌, ◌^◌, ◌<◌, ◌≤◌, ◌++◌, pos, length, map, sum, take, drop, replicate, flat_map, IfOk, OnOk};
-ghost use Rattle.czi_format.specs.Entry.{IsEntry, entry_len, entry_bytes};
+ghost use Rattle.std.specs.Prelude.{◌≡◌, ◌+◌, ◌^◌, ◌<◌, ◌≤◌, pos, length, map, sum, replicate, flat_map, IfOk, OnOk};
 ghost use Rattle.std.specs.List.{AllByRecursion};
+ghost use Rattle.czi_format.specs.Entry.{IsEntry, entry_len, entry_bytes};
 ghost use Rattle.czi_image.specs.View.{tile_of};
-ghost use Rattle.czi_region.specs.Pieces.{bytes_put, room};
-ghost use Rattle.czi_plan.specs.Directory.{data_in, directory_size, entries_of};
+ghost use Rattle.czi_region.specs.Pieces.{PutsPiece, room};
+ghost use Rattle.czi_plan.specs.Directory.{WritesEntries, data_in, directory_size, entries_of, listed, listed_middle};
 
+use crate::tiles::Listing;
 use czi_dv::{entry_len, write_directory_head, write_entry};
 use czi_image::Tile;
 use czi_num::write_bytes;
-use czi_region::{Piece, Region, written_piece};
+use czi_region::{Piece, Region, whole_piece, written_piece};
 use std::alloc::{AllocError, Global};
-
-/// How many bytes the entries of these subblocks have.
-pub fn entries_len(tiles: &[Tile]) -> usize
-    requires { length tiles.now ≤ 2 ^ 20 }
-    ensures len { result ≡ sum (map entry_len (entries_of tiles.now)) }
-    ensures bound { result ≤ 832 * length tiles.now }
-{
-    let mut len = 0;
-    for tile in tiles {
-        len += entry_len(&tile.info);
-    }
-    len
-}
 
 /// A place as it is stored in a position.
 fn position_of(place: u64) -> i64
@@ -35,7 +23,7 @@ fn position_of(place: u64) -> i64
 }
 
 /// Writes the entry of a subblock over the whole of `out`.
-fn write_tile(tile: &Tile, out: &mut [u8])
+pub fn write_tile(tile: &Tile, out: &mut [u8])
     requires { length out.old ≡ entry_len (tile_of tile.now).entry }
     ensures written { out.new ≡ entry_bytes (tile_of tile.now).entry }
     ensures entry { IsEntry (tile_of tile.now).entry }
@@ -46,10 +34,7 @@ fn write_tile(tile: &Tile, out: &mut [u8])
 /// Writes the entries of these subblocks from a place on, and answers the place behind them.
 fn write_entries(tiles: &[Tile], at: usize, out: &mut [u8]) -> usize
     requires { at + sum (map entry_len (entries_of tiles.now)) ≤ length out.old }
-    ensures end { result ≡ at + sum (map entry_len (entries_of tiles.now)) }
-    ensures entries { AllByRecursion IsEntry (entries_of tiles.now) }
-    ensures seam { length (flat_map entry_bytes (entries_of tiles.now)) ≡ sum (map entry_len (entries_of tiles.now)) }
-    ensures written { out.new ≡ take at out.old ++ (flat_map entry_bytes (entries_of tiles.now) ++ drop result out.old) }
+    ensures { WritesEntries (entries_of tiles.now) at result out.old out.new }
 {
     let mut end = at;
     for tile in tiles {
@@ -60,45 +45,69 @@ fn write_entries(tiles: &[Tile], at: usize, out: &mut [u8]) -> usize
     end
 }
 
-/// Writes the data of a directory over zeros: the entries of the first subblocks, and then those of the others.
-fn fill_directory(before: &[Tile], behind: &[Tile], out: &mut [u8])
-    requires few { length before.now + length behind.now ≤ 2 ^ 20 }
-    requires zeros { out.old ≡ replicate (length out.old) 0 }
-    requires room { directory_size (entries_of before.now ++ entries_of behind.now) ≤ length out.old }
-    ensures written { out.new ≡ data_in (length out.old) (entries_of before.now ++ entries_of behind.now) }
-    ensures entries { AllByRecursion IsEntry (entries_of before.now ++ entries_of behind.now) }
+/// Writes the entries that come, and those that move.
+fn write_middle(listing: &Listing, at: usize, out: &mut [u8]) -> usize
+    requires { at + sum (map entry_len (listed_middle listing.now)) ≤ length out.old }
+    ensures { WritesEntries (listed_middle listing.now) at result out.old out.new }
 {
-    let count = before.len() + behind.len();
-    write_bytes(out, 0, &write_directory_head(count as u32));
-    let end = write_entries(before, 128, out);
-    write_entries(behind, end, out);
+    let moved_at = write_entries(listing.brought, at, out);
+    write_entries(listing.moved, moved_at, out)
+}
+
+/// Writes all entries.
+fn write_listing(listing: &Listing, at: usize, out: &mut [u8]) -> usize
+    requires { at + sum (map entry_len (listed listing.now)) ≤ length out.old }
+    ensures { WritesEntries (listed listing.now) at result out.old out.new }
+{
+    let middle_at = write_entries(listing.before, at, out);
+    let back_at = write_middle(listing, middle_at, out);
+    write_entries(listing.still, back_at, out)
+}
+
+/// How many subblocks are listed.
+pub fn count_of(listing: &Listing) -> usize
+    requires { length (listed listing.now) ≤ 2 ^ 20 }
+    ensures { result ≡ length (listed listing.now) }
+{
+    listing.before.len() + listing.brought.len() + listing.moved.len() + listing.still.len()
+}
+
+/// Writes the data of a directory over zeros.
+fn fill_directory(listing: &Listing, out: &mut [u8])
+    requires few { length (listed listing.now) ≤ 2 ^ 20 }
+    requires zeros { out.old ≡ replicate (length out.old) 0 }
+    requires room { directory_size (listed listing.now) ≤ length out.old }
+    ensures written { out.new ≡ data_in (length out.old) (listed listing.now) }
+    ensures entries { AllByRecursion IsEntry (listed listing.now) }
+{
+    write_bytes(out, 0, &write_directory_head(count_of(listing) as u32));
+    write_listing(listing, 128, out);
 }
 
 /// Puts the data of a directory into a region as one piece of `len` bytes, padded with zeros.
-pub fn stage_directory(before: &[Tile], behind: &[Tile], len: usize, region: &mut Region) -> Piece
-    requires few { length before.now + length behind.now ≤ 2 ^ 20 }
-    requires long { directory_size (entries_of before.now ++ entries_of behind.now) ≤ len }
+pub fn stage_directory(listing: &Listing, len: usize, region: &mut Region) -> Piece
+    requires few { length (listed listing.now) ≤ 2 ^ 20 }
+    requires long { directory_size (listed listing.now) ≤ len }
     requires room { len ≤ room region.old }
-    ensures bytes { bytes_put region.new ≡ bytes_put region.old ++ data_in len (entries_of before.now ++ entries_of behind.now) }
-    ensures entries { AllByRecursion IsEntry (entries_of before.now ++ entries_of behind.now) }
-    ensures size { length (data_in len (entries_of before.now ++ entries_of behind.now)) ≡ len }
-    ensures front { result.at ≡ length (bytes_put region.old) }
+    ensures staged { PutsPiece region.old region.new result (data_in len (listed listing.now)) }
+    ensures entries { AllByRecursion IsEntry (listed listing.now) }
     ensures whole { result.len ≡ len }
 {
     let piece = region.zeros(len);
-    fill_directory(before, behind, region.get_mut(&piece));
+    fill_directory(listing, region.get_mut(&piece));
     written_piece();
+    whole_piece();
     piece
 }
 
-/// The bytes of the entries of these subblocks.
-pub fn entries_bytes(alloc: Global, tiles: &[Tile]) -> Result<Vec<u8>, AllocError>
-    requires { length tiles.now ≤ 2 ^ 20 }
-    ensures bytes { IfOk result (λ v. v.items ≡ flat_map entry_bytes (entries_of tiles.now)) }
-    ensures entries { OnOk result (AllByRecursion IsEntry (entries_of tiles.now)) }
-    ensures size { OnOk result (length (flat_map entry_bytes (entries_of tiles.now)) ≡ sum (map entry_len (entries_of tiles.now))) }
+/// The bytes of the entries that come and of those that move, which are so many.
+pub fn middle_bytes(alloc: Global, listing: &Listing, len: usize) -> Result<Vec<u8>, AllocError>
+    requires { len ≡ sum (map entry_len (listed_middle listing.now)) }
+    ensures bytes { IfOk result (λ v. v.items ≡ flat_map entry_bytes (listed_middle listing.now)) }
+    ensures entries { OnOk result (AllByRecursion IsEntry (listed_middle listing.now)) }
+    ensures size { OnOk result (length (flat_map entry_bytes (listed_middle listing.now)) ≡ len) }
 {
-    let mut bytes = vec![in alloc; 0u8; entries_len(tiles)]?;
-    write_entries(tiles, 0, &mut bytes);
+    let mut bytes = vec![in alloc; 0u8; len]?;
+    write_middle(listing, 0, &mut bytes);
     Ok(bytes)
 }

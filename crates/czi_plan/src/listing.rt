@@ -7,16 +7,17 @@ ghost use Rattle.czi_num.specs.Span.{span_of};
 ghost use Rattle.czi_machine.specs.Places.{with_slack};
 ghost use Rattle.czi_region.specs.Pieces.{room};
 ghost use Rattle.czi_space.specs.State.{AreExtents, space_of};
-ghost use Rattle.czi_plan.specs.Directory.{directory_size, entries_of, need_of};
-ghost use Rattle.czi_plan.specs.Listing.{IsPlace, IsReady, Lists, Patches, Writes, fits_in_place, has_room};
+ghost use Rattle.czi_plan.specs.Directory.{AreSizes, directory_size, listed, listed_back, listed_front, listed_middle, need_of};
+ghost use Rattle.czi_plan.specs.Listing.{IsPlace, IsReady, KeepsPut, Lists, Patches, Writes, fits_in_place, has_room};
 ghost use Rattle.czi_plan.specs.Marks.{IsSized, mark_of};
 ghost use Rattle.czi_plan.specs.Placing.{IsFull};
 
-use crate::directory::{entries_bytes, entries_len, stage_directory};
+use crate::directory::{count_of, middle_bytes, stage_directory};
 use crate::marks::{Mark, mark_header, mark_patch, mark_pointer};
-use crate::placing::place;
+use crate::placing::{place, walks_at};
 use crate::plan::{EditPlan, PlanFault};
-use czi_image::{DirItem, DirectoryChange, Index, Tile};
+use crate::tiles::{Listing, Sizes};
+use czi_image::{DirItem, DirectoryChange, Index};
 use czi_num::{Span, round32};
 use czi_region::Region;
 use czi_seg::{SegHeader, SegId};
@@ -72,31 +73,37 @@ pub fn plan_directory(
         return Ok(DirectoryChange::Patched);
     }
     let span = place(space, used, 32 + round32(with_slack(size) as u64))?;
-    let goes_on = round32(index.walk_end) == round32(index.length);
-    let walked = span.at < index.length || goes_on;
+    let walked = walks_at(index, span.at);
     Ok(DirectoryChange::New(DirItem { span, walked }))
 }
 
-/// Plans what is written of a directory of subblocks that lies where it lay: those before stay, and of the others the
-/// entries are written.
+/// Plans what is written of a directory of subblocks that lies where it lay: its sizes, and the entries that come or move.
 fn patch_tiles(
     alloc: Global,
     directory: &DirItem,
-    before: &[Tile],
-    behind: &[Tile],
+    listing: &Listing,
+    sizes: &Sizes,
     marks: &mut Vec<Mark>,
 ) -> Result<(), AllocError>
-    requires few { length before.now + length behind.now ≤ 2 ^ 20 }
-    requires room { has_room directory.now (directory_size (entries_of before.now ++ entries_of behind.now)) }
+    requires few { length (listed listing.now) ≤ 2 ^ 20 }
+    requires sizes { AreSizes sizes.now (listed_front listing.now) (listed_middle listing.now) (listed_back listing.now) }
+    requires room { has_room directory.now (directory_size (listed listing.now)) }
     requires sized { AllByRecursion IsSized marks.old.items }
-    ensures patches { OnOk result (Patches directory.now (entries_of before.now) (entries_of behind.now) (map mark_of marks.old.items) (map mark_of marks.new.items)) }
+    ensures patches { OnOk result (Patches directory.now (listed_front listing.now) (listed_middle listing.now) (listed_back listing.now) (map mark_of marks.old.items) (map mark_of marks.new.items)) }
     ensures sized { OnOk result (AllByRecursion IsSized marks.new.items) }
 {
-    let from = 128 + entries_len(before);
-    let entries = entries_bytes(alloc, behind)?;
-    let used = from + entries.len();
-    let count = before.len() + behind.len();
-    mark_patch(alloc, directory.span.at, used, count, from, entries, marks)?;
+    let entries = middle_bytes(alloc, listing, sizes.middle)?;
+    let used = sizes.total();
+    let count = count_of(listing);
+    mark_patch(
+        alloc,
+        directory.span.at,
+        used,
+        count,
+        sizes.front,
+        entries,
+        marks,
+    )?;
     Ok(())
 }
 
@@ -104,60 +111,63 @@ fn patch_tiles(
 fn write_tiles(
     alloc: Global,
     directory: &DirItem,
-    before: &[Tile],
-    behind: &[Tile],
+    listing: &Listing,
+    sizes: &Sizes,
     region: &mut Region,
     out: &mut EditPlan,
     marks: &mut Vec<Mark>,
 ) -> Result<(), AllocError>
-    requires few { length before.now + length behind.now ≤ 2 ^ 20 }
-    requires long { has_room directory.now (directory_size (entries_of before.now ++ entries_of behind.now)) }
+    requires few { length (listed listing.now) ≤ 2 ^ 20 }
+    requires sizes { AreSizes sizes.now (listed_front listing.now) (listed_middle listing.now) (listed_back listing.now) }
+    requires long { has_room directory.now (directory_size (listed listing.now)) }
     requires room { directory.now.span.len - 32 ≤ room region.old }
     requires sized { AllByRecursion IsSized marks.old.items }
-    ensures writes { OnOk result (Writes directory.now (entries_of before.now ++ entries_of behind.now) region.new out.old out.new (map mark_of marks.old.items) (map mark_of marks.new.items)) }
+    ensures writes { OnOk result (Writes directory.now (listed listing.now) region.new out.old out.new (map mark_of marks.old.items) (map mark_of marks.new.items)) }
     ensures sized { OnOk result (AllByRecursion IsSized marks.new.items) }
+    ensures kept { KeepsPut region.old region.new }
 {
     let span = directory.span;
     let allocated = span.len - 32;
-    let size = 128 + entries_len(before) + entries_len(behind);
-    let piece = stage_directory(before, behind, allocated as usize, region);
-    out.writes.push((span.at + 32, piece))?;
-    out.used.push(span)?;
-    out.length = out.length.max(span.at + span.len);
     let header = SegHeader {
         id: SegId::Directory,
         allocated,
-        used: size as u64,
+        used: sizes.total() as u64,
     };
+    let piece = stage_directory(listing, allocated as usize, region);
+    out.writes.push((span.at + 32, piece))?;
+    out.used.push(span)?;
+    out.length = out.length.max(span.at + span.len);
     mark_pointer(alloc, DIRECTORY_POSITION, span.at, marks)?;
     mark_header(alloc, span.at, &header, marks)?;
     Ok(())
 }
 
-/// Plans the directory of subblocks, of which those before stay and the others come behind them.
+/// Plans a directory of subblocks, once it is known what becomes of it.
 pub fn list_tiles(
     alloc: Global,
     index: &Index,
-    before: &[Tile],
-    behind: &[Tile],
+    listing: &Listing,
+    sizes: &Sizes,
     region: &mut Region,
     out: &mut EditPlan,
     marks: &mut Vec<Mark>,
 ) -> Result<(), AllocError>
-    requires few { length before.now + length behind.now ≤ 2 ^ 20 }
-    requires ready { IsReady index.now.directory (directory_size (entries_of before.now ++ entries_of behind.now)) (room region.old) out.old.change.directory }
+    requires few { length (listed listing.now) ≤ 2 ^ 20 }
+    requires sizes { AreSizes sizes.now (listed_front listing.now) (listed_middle listing.now) (listed_back listing.now) }
+    requires ready { IsReady index.now.directory (directory_size (listed listing.now)) (room region.old) out.old.change.directory }
     requires sized { AllByRecursion IsSized marks.old.items }
-    ensures lists { OnOk result (Lists index.now.directory out.old.change.directory (entries_of before.now) (entries_of behind.now) region.new out.old out.new (map mark_of marks.old.items) (map mark_of marks.new.items)) }
+    ensures lists { OnOk result (Lists index.now.directory out.old.change.directory (listed_front listing.now) (listed_middle listing.now) (listed_back listing.now) region.new out.old out.new (map mark_of marks.old.items) (map mark_of marks.new.items)) }
     ensures sized { OnOk result (AllByRecursion IsSized marks.new.items) }
+    ensures kept { KeepsPut region.old region.new }
 {
     match out.change.directory {
         DirectoryChange::Kept => Ok(()),
         DirectoryChange::Patched => match &index.directory {
-            Some(directory) => patch_tiles(alloc, directory, before, behind, marks),
+            Some(directory) => patch_tiles(alloc, directory, listing, sizes, marks),
             None => Ok(()),
         },
         DirectoryChange::New(directory) => {
-            write_tiles(alloc, &directory, before, behind, region, out, marks)
+            write_tiles(alloc, &directory, listing, sizes, region, out, marks)
         }
     }
 }

@@ -1,7 +1,7 @@
 //! The subblock with a key. Two lists of dimensions have one key where each name and start stands as often in the one as
 //! in the other, and the sizes of the first X and of the first Y are the same.
 
-ghost use Rattle.std.specs.Prelude.{◌≡◌, ◌↔◌, ◌≤◌, map, count_by, find, length, IsTrue, bytes_eq};
+ghost use Rattle.std.specs.Prelude.{◌≡◌, ◌≢◌, ◌<◌, ◌≤◌, ℕ, map, count_by, find, length, IsTrue, MatchOption, bytes_eq, slice_index};
 ghost use Rattle.std.specs.List.{AllByRecursion};
 ghost use Rattle.czi_doc.specs.View.{dim_of, dims_of};
 ghost use Rattle.czi_doc.specs.declared.dimensions.Dim.{Dim};
@@ -12,7 +12,7 @@ ghost use Rattle.czi_machine.specs.Edit.{same_key, same_sizes};
 ghost use Rattle.czi_plan.specs.Search.{has_axis, tile_with};
 
 use czi_doc::{Dim, Dims};
-use czi_image::Tile;
+use czi_image::{Index, Tile};
 
 /// Whether two dimensions have one name and start.
 fn has_axis(dim: &Dim, other: &Dim) -> bool
@@ -95,14 +95,35 @@ fn has_key(tile: &Tile, dims: &Dims) -> bool
     have_one_key(tile.info.dims.list(), dims.list())
 }
 
-/// The place of the first subblock that has the key of these dimensions.
-pub fn tile_with(tiles: &[Tile], dims: &Dims) -> Option<usize>
-    ensures { result ≡ tile_with (dims_of dims.now) (map tile_of tiles.now) }
+/// The first place from one on where a number stands.
+fn place_from(numbers: &[u32], number: u32, from: usize) -> Option<usize>
+    requires { from ≤ length numbers.now }
+    ensures { MatchOption result
+        ((k : ℕ) → from ≤ k → k < length numbers.now → slice_index numbers.now k ≢ number)
+        (λ i. (from ≤ i) × (i < length numbers.now) × ((k : ℕ) → from ≤ k → k < i → slice_index numbers.now k ≢ number)) }
 {
-    for (i, tile) in tiles.iter().enumerate() {
-        if has_key(tile, dims) {
+    for i in from..numbers.len() {
+        if numbers[i] == number {
             return Some(i);
         }
+    }
+    None
+}
+
+/// The place of the first subblock that has the key of these dimensions.
+///
+/// It looks through the numbers of the keys, and compares dimensions only where the number is the same.
+pub fn tile_with(index: &Index, dims: &Dims) -> Option<usize>
+    ensures { result ≡ tile_with (dims_of dims.now) (map tile_of index.now.tiles.items) }
+{
+    let number = dims.key_number();
+    let numbers = index.key_numbers();
+    let mut from = 0;
+    while let Some(i) = place_from(numbers, number, from) {
+        if has_key(&index.tiles[i], dims) {
+            return Some(i);
+        }
+        from = i + 1;
     }
     None
 }

@@ -1,16 +1,18 @@
-ghost use Rattle.std.specs.Prelude.{◌≡◌, ◌≤◌, ◌<◌, ◌^◌, map, IfOk};
+ghost use Rattle.std.specs.Prelude.{◌≡◌, ◌≤◌, ◌<◌, ◌^◌, [], map, IfOk, OnOk};
 ghost use Rattle.std.specs.List.{AllByRecursion};
-ghost use Rattle.czi_region.specs.Pieces.{IsPiece};
+ghost use Rattle.czi_region.specs.Pieces.{IsPiece, bytes_put};
 ghost use Rattle.czi_format.specs.Space.{without};
 ghost use Rattle.czi_format.specs.Span.{span_le, sorted};
-ghost use Rattle.czi_plan.specs.Conditions.{IsMapOf};
+ghost use Rattle.czi_plan.specs.Conditions.{IsEmpty, IsMapOf};
 ghost use Rattle.czi_plan.specs.Geometry.{AreFreed, AreUsed};
 ghost use Rattle.czi_num.specs.Span.{span_of};
 ghost use Rattle.czi_space.specs.State.{AreExtents};
 
 use crate::search::tile_with;
-use crate::{EditPlan, PlanFault, plan_remove, update_map};
-use czi_doc::read_dims;
+use crate::{
+    EditPlan, PlanFault, plan_add, plan_remove, plan_replace, plan_replace_at, update_map,
+};
+use czi_doc::{EntryInfo, read_dims};
 use czi_image::{Index, read_index};
 use czi_num::{Span, write_bytes};
 use czi_region::{Piece, Region};
@@ -115,7 +117,7 @@ struct Removal {
 fn planned(alloc: Global, index: &Index, dims: &[u8]) -> Result<Result<Removal, PlanFault>, Fail> {
     let dims = read_dims(alloc, dims).ok().ok_or("no dimensions")?;
     let mut map = map_of(alloc, index)?;
-    let Some(_) = tile_with(index.tiles.as_slice(), &dims) else {
+    let Some(_) = tile_with(index, &dims) else {
         return Err(Fail::from("no such subblock"));
     };
     let mut region = Region::new(alloc);
@@ -263,8 +265,13 @@ const THREE: [Part; 40] = [
 ];
 
 fn three(alloc: Global) -> Result<Index, Fail> {
-    let mut image = vec![in alloc; 0u8; 1824]?;
+    three_in(alloc, 1824, &[])
+}
+
+fn three_in(alloc: Global, len: usize, changes: &[Part]) -> Result<Index, Fail> {
+    let mut image = vec![in alloc; 0u8; len]?;
     put(&mut image, &THREE);
+    put(&mut image, changes);
     let mut rig = MemRig::new(alloc, &image, b"")?;
     let index = read_index(alloc, &mut rig).ok().ok_or("refused")?;
     Ok(index)
@@ -361,8 +368,13 @@ fn put_behind(image: &mut Vec<u8>, place: usize, parts: &[Part])
 }
 
 fn many(alloc: Global) -> Result<Index, Fail> {
-    let mut image = vec![in alloc; 0u8; 297_344]?;
+    many_in(alloc, 297_344, &[])
+}
+
+fn many_in(alloc: Global, len: usize, changes: &[Part]) -> Result<Index, Fail> {
+    let mut image = vec![in alloc; 0u8; len]?;
     put(&mut image, &MANY);
+    put(&mut image, changes);
     for i in 0..720usize {
         let place = 544 + 320 * i;
         let entry = 231_104 + 92 * i;
@@ -438,22 +450,12 @@ fn past_65536_bytes_there_is_a_new_directory(rt: HostRuntime) -> Result<(), Fail
 }
 
 // The index in a longer file.
-fn lengthened(index: Index, length: u64) -> Index
+fn lengthened(mut index: Index, length: u64) -> Index
     requires longer { index.length ≤ length }
     requires small { length ≤ 2 ^ 62 }
 {
-    Index {
-        header: index.header,
-        length,
-        directory: index.directory,
-        tiles: index.tiles,
-        attdir: index.attdir,
-        attachments: index.attachments,
-        metadata: index.metadata,
-        extents: index.extents,
-        unknown: index.unknown,
-        walk_end: index.walk_end,
-    }
+    index.length = length;
+    index
 }
 
 #[test]
@@ -472,6 +474,302 @@ fn at_the_limit_there_is_no_place(rt: HostRuntime) -> Result<(), Fail> {
         } else {
             assert!(rt; answer.is_ok());
         }
+    }
+    Ok(())
+}
+
+// A document without subblocks, in an image of 704 bytes: the directory at 544 has room for no entry.
+const EMPTY: [Part; 7] = [
+    (0, b"ZISRAWFILE"),
+    (16, &[0, 2]),
+    (24, &[0, 2]),
+    (84, &[0x20, 2]),
+    (544, b"ZISRAWDIRECTORY"),
+    (560, &[128]),
+    (568, &[128]),
+];
+
+fn empty_in(alloc: Global, len: usize, changes: &[Part]) -> Result<Index, Fail> {
+    let mut image = vec![in alloc; 0u8; len]?;
+    put(&mut image, &EMPTY);
+    put(&mut image, changes);
+    let mut rig = MemRig::new(alloc, &image, b"")?;
+    let index = read_index(alloc, &mut rig).ok().ok_or("refused")?;
+    Ok(index)
+}
+
+// What is planned with a new subblock.
+#[derive(Clone, Copy)]
+enum Edit {
+    Add,
+    Replace,
+    ReplaceAt(usize),
+}
+
+const PIXELS: &[u8] = b"ABCDEFGH";
+
+const SUBBLOCK_HEAD: &[u8] = b"ZISRAWSUBBLOCK\0\0\x20\x01\0\0\0\0\0\0";
+
+const DIRECTORY_HEAD: &[u8] = b"ZISRAWDIRECTORY\0\xE0\x04\0\0\0\0\0\0";
+
+// The plan that brings a subblock with these dimensions and eight bytes of pixels, and the bytes of its first write.
+fn brought(
+    alloc: Global,
+    index: &Index,
+    edit: Edit,
+    dims: &[u8],
+) -> Result<(EditPlan, Vec<u8>), Fail> {
+    let dims = read_dims(alloc, dims).ok().ok_or("no dimensions")?;
+    let info = EntryInfo {
+        pixel: 0,
+        compression: 0,
+        pyramid: 0,
+        spare: [0; 5],
+        dims,
+    };
+    let map = map_of(alloc, index)?;
+    let mut region = Region::new(alloc);
+    let mut plan = EditPlan::new(alloc);
+    let answer = planned_with(alloc, index, &map, edit, &info, &mut region, &mut plan);
+    if answer.is_err() {
+        return Err(Fail::from("no plan"));
+    }
+    let bytes = first_write(alloc, &region, &plan)?;
+    Ok((plan, bytes))
+}
+
+fn planned_with(
+    alloc: Global,
+    index: &Index,
+    map: &Map,
+    edit: Edit,
+    info: &EntryInfo,
+    region: &mut Region,
+    out: &mut EditPlan,
+) -> Result<(), PlanFault>
+    requires empty { IsEmpty out.old }
+    requires reset { bytes_put region.old ≡ [] }
+    requires of_index { IsMapOf index.now map.now }
+    ensures { OnOk result (AllByRecursion (λ w. IsPiece region.new w.1) out.new.writes.items) }
+{
+    match edit {
+        Edit::Add => {
+            if index.tiles.len() >= 1_048_576 {
+                return Err(PlanFault::Memory);
+            }
+            plan_add(alloc, index, map, info, b"", PIXELS, b"", region, out)
+        }
+        Edit::Replace => {
+            if tile_with(index, &info.dims).is_none() {
+                return Err(PlanFault::Memory);
+            }
+            plan_replace(alloc, index, map, info, b"", PIXELS, b"", region, out)
+        }
+        Edit::ReplaceAt(i) => {
+            if i >= index.tiles.len() {
+                return Err(PlanFault::Memory);
+            }
+            plan_replace_at(alloc, index, map, i, info, b"", PIXELS, b"", region, out)
+        }
+    }
+}
+
+#[test]
+fn a_subblock_comes_to_the_empty_document(rt: HostRuntime) -> Result<(), Fail> {
+    let alloc = rt.alloc();
+    let index = empty_in(alloc, 704, &[])?;
+    let (plan, bytes) = brought(alloc, &index, Edit::Add, b"C0,X0:4,Y0:2")?;
+    assert_eq!(rt; plan.length, 2304);
+    let used = [
+        Span { at: 704, len: 320 },
+        Span {
+            at: 1024,
+            len: 1280,
+        },
+    ];
+    assert!(rt; plan.used.as_slice() == used.as_slice());
+    assert!(rt; plan.freed.as_slice() == [Span { at: 544, len: 160 }].as_slice());
+    assert!(rt; plan.held.is_empty());
+    let writes = [
+        (736, Piece { at: 0, len: 288 }),
+        (1056, Piece { at: 288, len: 1248 }),
+    ];
+    assert!(rt; plan.writes.as_slice() == writes.as_slice());
+    assert_eq!(rt; bytes.len(), 288);
+    assert!(rt; bytes[..24].starts_with(b"\0\0\0\0\0\0\0\0\x08\0\0\0\0\0\0\0DV\0\0\0\0\xC0\x02"));
+    assert!(rt; bytes[44..64].starts_with(b"\x03\0\0\0C\0\0\0\0\0\0\0\x01\0\0\0\0\0\0\0"));
+    assert!(rt; bytes[256..].starts_with(PIXELS));
+    assert_eq!(rt; bytes[264..].iter().all(|b| *b == 0), true);
+    let links = links_of(alloc, &plan)?;
+    assert_eq!(rt; links.len(), 4);
+    assert_eq!(rt;
+        [links[0].0, links[1].0, links[2].0, links[3].0],
+        [84, 544, 704, 1024]
+    );
+    assert_eq!(rt; links[0].1.as_slice(), [0, 4, 0, 0, 0, 0, 0, 0].as_slice());
+    assert_eq!(rt; links[1].1.as_slice(), deleted(128, 0).as_slice());
+    assert_eq!(rt; links[2].1.as_slice(), SUBBLOCK_HEAD);
+    assert_eq!(rt; links[3].1.as_slice(), DIRECTORY_HEAD);
+    Ok(())
+}
+
+// A document with a directory that begins at a place, and a border on which it is changed in place or not.
+#[derive(Clone, Copy)]
+enum Document {
+    Empty(usize, &'static [Part]),
+    One,
+    Three(usize, &'static [Part]),
+    Many(usize, &'static [Part]),
+}
+
+fn index_in(alloc: Global, document: Document) -> Result<Index, Fail> {
+    match document {
+        Document::Empty(len, changes) => empty_in(alloc, len, changes),
+        Document::One => index_of(alloc, 1280, &[]),
+        Document::Three(len, changes) => three_in(alloc, len, changes),
+        Document::Many(len, changes) => many_in(alloc, len, changes),
+    }
+}
+
+// What is planned: the length, what is used, what is freed, and the links' places and lengths.
+struct Row {
+    document: Document,
+    edit: Edit,
+    dims: &'static [u8],
+    length: u64,
+    used: &'static [(u64, u64)],
+    freed: &'static [(u64, u64)],
+    links: &'static [(u64, usize)],
+}
+
+const ROWS: [Row; 7] = [
+    // the directory has room to the last byte, and for one byte less
+    Row {
+        document: Document::Empty(796, &[(560, &[220])]),
+        edit: Edit::Add,
+        dims: b"C0,X0:4,Y0:2",
+        length: 1120,
+        used: &[(800, 320)],
+        freed: &[],
+        links: &[(568, 8), (576, 4), (704, 92), (800, 32)],
+    },
+    Row {
+        document: Document::Empty(795, &[(560, &[219])]),
+        edit: Edit::Add,
+        dims: b"C0,X0:4,Y0:2",
+        length: 2400,
+        used: &[(800, 320), (1120, 1280)],
+        freed: &[],
+        links: &[(84, 8), (544, 32), (800, 32), (1120, 32)],
+    },
+    // an entry that is as long is written alone, and else those behind it move
+    Row {
+        document: Document::One,
+        edit: Edit::Replace,
+        dims: b"C0,X0:4,Y0:2",
+        length: 1600,
+        used: &[(1280, 320)],
+        freed: &[(704, 320)],
+        links: &[(544, 32), (1048, 8), (1056, 4), (1184, 92), (1280, 32)],
+    },
+    Row {
+        document: Document::Three(1856, &[(1520, &[0x40, 1])]),
+        edit: Edit::ReplaceAt(0),
+        dims: b"X0:1",
+        length: 2176,
+        used: &[(1856, 320)],
+        freed: &[(544, 320)],
+        links: &[(544, 32), (1528, 8), (1536, 4), (1664, 52), (1856, 32)],
+    },
+    Row {
+        document: Document::Three(1856, &[(1520, &[0x40, 1])]),
+        edit: Edit::ReplaceAt(0),
+        dims: b"X0:1,Y0:1",
+        length: 2176,
+        used: &[(1856, 320)],
+        freed: &[(544, 320)],
+        links: &[(544, 32), (1528, 8), (1536, 4), (1664, 176), (1856, 32)],
+    },
+    // a range of 65,536 bytes, and of 20 more
+    Row {
+        document: Document::Many(298_048, &[(230_960, &[0, 6, 1])]),
+        edit: Edit::ReplaceAt(12),
+        dims: b"A0,B0,C0,D0,E0,F0,G0,H0,I0,J0,K0,L0,M0,N0,O0,P0,Q0,R0,S0,T0,U0,V0,W0",
+        length: 298_624,
+        used: &[(298_048, 576)],
+        freed: &[(4384, 320)],
+        links: &[
+            (4384, 32),
+            (230_968, 8),
+            (230_976, 4),
+            (232_208, 65_536),
+            (298_048, 32),
+        ],
+    },
+    Row {
+        document: Document::Many(298_048, &[(230_960, &[0, 6, 1])]),
+        edit: Edit::ReplaceAt(12),
+        dims: b"A0,B0,C0,D0,E0,F0,G0,H0,I0,J0,K0,L0,M0,N0,O0,P0,Q0,R0,S0,T0,U0,V0,W0,Z0",
+        length: 382_144,
+        used: &[(298_048, 576), (298_624, 83_520)],
+        freed: &[(4384, 320), (230_944, 67_104)],
+        links: &[
+            (84, 8),
+            (4384, 32),
+            (230_944, 32),
+            (298_048, 32),
+            (298_624, 32),
+        ],
+    },
+];
+
+fn pairs_of(alloc: Global, spans: &[Span]) -> Result<Vec<(u64, u64)>, AllocError> {
+    let mut pairs = Vec::new(alloc);
+    for span in spans {
+        pairs.push((span.at, span.len))?;
+    }
+    Ok(pairs)
+}
+
+fn places_of(alloc: Global, plan: &EditPlan) -> Result<Vec<(u64, usize)>, AllocError> {
+    let mut places = Vec::new(alloc);
+    for i in 0..plan.links.count() {
+        let (place, bytes) = plan.links.link(i);
+        places.push((place, bytes.len()))?;
+    }
+    Ok(places)
+}
+
+#[test]
+fn a_directory_is_changed_in_place_or_new(rt: HostRuntime) -> Result<(), Fail> {
+    let alloc = rt.alloc();
+    for row in &ROWS {
+        let index = index_in(alloc, row.document)?;
+        let (plan, _) = brought(alloc, &index, row.edit, row.dims)?;
+        assert_eq!(rt; plan.length, row.length);
+        let used = pairs_of(alloc, plan.used.as_slice())?;
+        let freed = pairs_of(alloc, plan.freed.as_slice())?;
+        let places = places_of(alloc, &plan)?;
+        assert!(rt; used.as_slice() == row.used);
+        assert!(rt; freed.as_slice() == row.freed);
+        assert!(rt; places.as_slice() == row.links);
+    }
+    Ok(())
+}
+
+#[test]
+fn the_used_size_is_that_of_the_new_data(rt: HostRuntime) -> Result<(), Fail> {
+    let alloc = rt.alloc();
+    let changes: [Part; 2] = [(1520, &[0x40, 1]), (1528, &[0x40, 1])];
+    let index = three_in(alloc, 1856, &changes)?;
+    for (dims, used) in [(b"X0:1".as_slice(), 0x1C), (b"X0:1,Y0:1".as_slice(), 0x30)] {
+        let (plan, _) = brought(alloc, &index, Edit::ReplaceAt(1), dims)?;
+        let links = links_of(alloc, &plan)?;
+        assert!(rt; links.len() >= 3);
+        assert_eq!(rt;
+            (links[1].0, links[1].1.as_slice()),
+            (1528, [used, 1, 0, 0, 0, 0, 0, 0].as_slice())
+        );
     }
     Ok(())
 }

@@ -1,24 +1,22 @@
-use Rattle.std.proofs.Common.{◌≡◌, ℕ, ◌+◌, ◌≤◌, take, length, replicate, ap, ◌∙◌, arith, drop, length-append, ◌++◌}
+use Rattle.std.proofs.Common.{◌≡◌, ℕ, ◌+◌, ◌≤◌, take, length, replicate, ap, ◌∙◌, sym, arith, drop, length-append, ◌++◌}
 use Rattle.std.proofs.lemmas.List.{length-replicate}
 use Rattle.czi_region.specs.Pieces.{bytes_put}
-use Rattle.czi_plan.specs.Directory.{entries_of, data_in}
+use Rattle.czi_plan.specs.Directory.{data_in, listed}
 use Rattle.czi_plan.proofs.Entries.{over_last}
 use Rattle.czi_plan.proofs.directory.stage_directory.Goals as goal
 
-pub returns-clause-bytes : goal.returns-clause-bytes
-returns-clause-bytes c =
+pub returns-clause-staged : goal.returns-clause-staged
+returns-clause-staged c =
     let long : length c.get_mut.result.now ≡ c.args.len = ap length (c.get_mut.ensures.value ∙ c.zeros-piece.ensures.reads) ∙ length-replicate c.args.len 0 in
+    let filled : c.fill_directory.new.out ≡ data_in c.args.len (listed c.args.listing.now) = c.fill_directory.ensures.written ∙ ap (λ n. data_in n (listed c.args.listing.now)) long in
+    let size : length (data_in c.args.len (listed c.args.listing.now)) ≡ c.args.len = omega (arith, ap length filled, c.fill_directory.auto.out, long) in
     let same : length c.fill_directory.new.out ≡ c.zeros-piece.result.len = omega (arith, c.fill_directory.auto.out, long, c.zeros-piece.ensures.long) in
     let inside : c.zeros-piece.result.at + c.zeros-piece.result.len ≤ length (bytes_put c.zeros-piece.new.self)
     = omega (arith, ap length c.zeros-piece.ensures.bytes, length-append (bytes_put c.args.region.now) (replicate c.args.len 0), length-replicate {A = ℕ} c.args.len 0, c.zeros-piece.ensures.behind, c.zeros-piece.ensures.long) in
-    c.written_piece.ensures.bytes c.zeros-piece.new.self c.zeros-piece.result c.fill_directory.new.out inside same
+    let put = c.written_piece.ensures.bytes c.zeros-piece.new.self c.zeros-piece.result c.fill_directory.new.out inside same
     ∙ (ap (λ n. take c.zeros-piece.result.at (bytes_put c.zeros-piece.new.self) ++ (c.fill_directory.new.out ++ drop (c.zeros-piece.result.at + n) (bytes_put c.zeros-piece.new.self))) c.zeros-piece.ensures.long
-    ∙ over_last (bytes_put c.args.region.now) (bytes_put c.zeros-piece.new.self) c.fill_directory.new.out (data_in c.args.len (entries_of c.args.before.now ++ entries_of c.args.behind.now)) c.zeros-piece.result.at c.args.len
-    c.zeros-piece.ensures.bytes c.zeros-piece.ensures.behind (c.fill_directory.ensures.written ∙ ap (λ n. data_in n (entries_of c.args.before.now ++ entries_of c.args.behind.now)) long))
-
-pub returns-clause-size : goal.returns-clause-size
-returns-clause-size c =
-    let long : length c.get_mut.result.now ≡ c.args.len = ap length (c.get_mut.ensures.value ∙ c.zeros-piece.ensures.reads) ∙ length-replicate c.args.len 0 in
-    let filled : c.fill_directory.new.out ≡ data_in c.args.len (entries_of c.args.before.now ++ entries_of c.args.behind.now)
-    = c.fill_directory.ensures.written ∙ ap (λ n. data_in n (entries_of c.args.before.now ++ entries_of c.args.behind.now)) long in
-    omega (arith, ap length filled, c.fill_directory.auto.out, long)
+    ∙ over_last (bytes_put c.args.region.now) (bytes_put c.zeros-piece.new.self) c.fill_directory.new.out (data_in c.args.len (listed c.args.listing.now)) c.zeros-piece.result.at c.args.len
+    c.zeros-piece.ensures.bytes c.zeros-piece.ensures.behind filled) in
+    c.whole_piece.ensures _ _ c.zeros-piece.result (data_in c.args.len (listed c.args.listing.now)) put
+    (omega (arith, c.written_piece.ensures.room c.zeros-piece.new.self c.zeros-piece.result c.fill_directory.new.out, c.zeros-piece.ensures.room, size))
+    c.zeros-piece.ensures.behind (c.zeros-piece.ensures.long ∙ sym size)

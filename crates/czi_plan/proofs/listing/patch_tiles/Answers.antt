@@ -1,15 +1,15 @@
-use Rattle.std.proofs.Common.{◌≡◌, ap, ◌∙◌, arith, length}
-use Rattle.czi_plan.specs.Directory.{entries_of}
-use Rattle.czi_plan.proofs.Entries.{both_length, patch_as, patch_size}
+use Rattle.std.proofs.Common.{◌∙◌}
+use Rattle.czi_plan.specs.Directory.{listed_back, listed_front, listed_middle}
+use Rattle.czi_plan.proofs.Entries.{patch_as, sizes_total}
 use Rattle.czi_plan.proofs.listing.patch_tiles.Goals as goal
 
 pub returns-clause-patches : goal.returns-clause-patches
 returns-clause-patches c =
-    let many : c.len.result ≡ length c.in_ok-entries.entries.items = omega (arith, c.len.ensures, c.in_ok-entries.entries.ok) in
+    let l = c.args.listing.now in
     record {
       marks = patch_as _ _ c.args.directory.now.span.at _ _ _ _ _ _ _ _ c.in_ok-mark_patch.ensures.marks
-          (patch_size (entries_of c.args.before.now) (entries_of c.args.behind.now) _ _ (omega (arith, c.entries_len-from.ensures.len)) (many ∙ (ap length c.in_ok-entries.ensures.bytes ∙ c.in_ok-entries.ensures.size)))
-          (both_length c.args.before.now c.args.behind.now) (omega (arith, c.entries_len-from.ensures.len)) c.in_ok-entries.ensures.bytes;
+          (c.total-used.ensures ∙ sizes_total c.args.sizes.now (listed_front l) (listed_middle l) (listed_back l) c.requires.sizes)
+          c.count_of-count.ensures c.requires.sizes.front_is c.in_ok-entries.ensures.bytes;
       entries = c.in_ok-entries.ensures.entries;
-      size = c.in_ok-entries.ensures.size;
+      size = c.in_ok-entries.ensures.size ∙ c.requires.sizes.middle_is;
     }

@@ -1,6 +1,6 @@
 use Rattle.std.proofs.Common.{◌+◌, ◌≤◌, ◌^◌, map, arith, sym}
 use Rattle.czi_num.specs.Span.{span_of}
-use Rattle.czi_plan.proofs.Removing.{placed_ends}
+use Rattle.czi_plan.proofs.Parts.{placed_ends}
 use Rattle.czi_plan.proofs.placing.place.Goals as goal
 
 pub invariant_of-result : goal.invariant_of-result

@@ -1,47 +1,66 @@
-use Rattle.std.proofs.Common.{ℕ, ◌≡◌}
+use Rattle.std.proofs.Common.{[], refl, ◌∙◌, subst}
 use Rattle.std.proofs.lemmas.Result.{err_from_is_err_and}
-use Rattle.czi_image.specs.declared.change.DirectoryChange.{DirectoryChange}
-use Rattle.czi_space.specs.State.{MapState}
-use Rattle.czi_plan.specs.Conditions.{IsEmpty}
-use Rattle.czi_plan.specs.Removal.{Starts}
-use Rattle.czi_plan.specs.declared.plan.EditPlan.{EditPlan}
-use Rattle.czi_plan.proofs.Doing.{does, no_memory, no_place}
-use Rattle.czi_plan.proofs.Removed.{is_plan, removes}
+use Rattle.czi_format.specs.Document.{Subblock}
+use Rattle.czi_image.specs.declared.change.Act.{Act as CodeAct}
+use Rattle.czi_image.specs.declared.change.Act.TheVariants.{Out}
+use Rattle.czi_image.specs.declared.index.Index.{Index}
+use Rattle.czi_machine.specs.Change.{out as taken_out}
+use Rattle.czi_space.specs.State.{space_of}
+use Rattle.czi_plan.specs.Bringing.{AreSizesOf}
+use Rattle.czi_plan.specs.Changing.{back_entries, front_entries, middle_entries, range_after}
+use Rattle.czi_plan.specs.Directory.{AreSizes}
+use Rattle.czi_plan.specs.Listing.{IsPlace}
+use Rattle.czi_plan.proofs.Brought.{range_of_act, size_of_act, sizes_out}
+use Rattle.czi_plan.proofs.Changed.{is_plan}
+use Rattle.czi_plan.proofs.Doing.{does}
+use Rattle.czi_plan.proofs.Entries.{sizes_total}
+use Rattle.czi_plan.proofs.Needs.{no_memory, no_place}
+use Rattle.czi_plan.proofs.Parts.{few_held, map_extents}
 use Rattle.czi_plan.proofs.removal.plan_remove_at.Goals as goal
 
-starts_as : (m : MapState) (p : EditPlan) (n : ℕ) (d : DirectoryChange) → IsEmpty p → n ≡ m.length → Starts m (record p { length = n; change = record p.change { directory = d } })
-starts_as m p n d empty long = record {
-  tiles = empty.change.tiles;
-  attdir = empty.change.attdir;
-  attachments = empty.change.attachments;
-  metadata = empty.change.metadata;
-  writes = empty.writes;
-  links = empty.links;
-  used = empty.used;
-  freed = empty.freed;
-  held = empty.held;
-  length = long;
-}
+pub plan_directory-requires-clause-rise : goal.plan_directory-requires-clause-rise
+plan_directory-requires-clause-rise c = map_extents c.args.index.now c.args.space.now c.requires.of_index
 
-pub returns-clause-plan : goal.returns-clause-plan
-returns-clause-plan c =
-    is_plan c.args.index.now c.args.space.now c.args.i c.stage_removal.new.region _ c.stage_removal.new.out c.requires.of_index c.requires.inside
-    (removes c.args.index.now c.args.space.now c.args.i c.stage_removal.new.region _ c.stage_removal.new.out c.requires.of_index c.requires.inside
-    (starts_as c.args.space.now c.args.out.now _ c.in_ok-out.field-0 c.requires.empty c.length-out.ensures) c.in_ok-out.ensures.place c.in_ok-stage_removal.ensures)
+pub stage_removal-requires-clause-sizes : goal.stage_removal-requires-clause-sizes
+stage_removal-requires-clause-sizes c =
+    let s = c.sizes_after-sizes.result in
+    let of : AreSizesOf s (Out c.args.i) c.args.index.now.tiles.items = subst (AreSizesOf s (Out c.args.i)) c.deref.ensures.value (sizes_out s c.deref.result.now c.args.i c.sizes_after-sizes.ensures.sizes) in
+    of [] refl
 
-pub returns-clause-does : goal.returns-clause-does
-returns-clause-does c =
-    let r = removes c.args.index.now c.args.space.now c.args.i c.stage_removal.new.region _ c.stage_removal.new.out c.requires.of_index c.requires.inside
-    (starts_as c.args.space.now c.args.out.now _ c.in_ok-out.field-0 c.requires.empty c.length-out.ensures) c.in_ok-out.ensures.place c.in_ok-stage_removal.ensures in
-    does c.args.index.now c.args.space.now c.args.i c.stage_removal.new.region c.in_ok-out.field-0 c.stage_removal.new.out c.requires.of_index c.requires.inside
-    (is_plan c.args.index.now c.args.space.now c.args.i c.stage_removal.new.region _ c.stage_removal.new.out c.requires.of_index c.requires.inside r) r
+pub stage_removal-requires-clause-place : goal.stage_removal-requires-clause-place
+stage_removal-requires-clause-place c =
+    let x : Index = c.args.index.now in
+    let s = c.sizes_after-sizes.result in
+    let of : AreSizesOf s (Out c.args.i) x.tiles.items = subst (AreSizesOf s (Out c.args.i)) c.deref.ensures.value (sizes_out s c.deref.result.now c.args.i c.sizes_after-sizes.ensures.sizes) in
+    let are : AreSizes s (front_entries (Out c.args.i) x.tiles.items) (middle_entries (Out c.args.i) x.tiles.items) (back_entries (Out c.args.i) x.tiles.items) = of [] refl in
+    subst (λ n. IsPlace x x.directory n (range_after (Out c.args.i) x) (space_of c.args.space.now) c.in_ok-out.field-0) (c.total-size.ensures ∙ sizes_total s _ _ _ are)
+    (subst (λ n. IsPlace x x.directory c.total-size.result n (space_of c.args.space.now) c.in_ok-out.field-0) are.middle_is c.in_ok-out.ensures.place)
 
 pub returns-in_err-out-clause-full : goal.returns-in_err-out-clause-full
 returns-in_err-out-clause-full c =
     let p = err_from_is_err_and c.from_residual.result c.from_residual.ensures.1 in
-    rw (p.1, p.2) (no_place c.args.index.now c.args.space.now c.args.i c.in_err-out.field-0.0 c.requires.of_index c.requires.inside c.in_err-out.ensures.full.0 c.in_err-out.ensures.full.1)
+    let x : Index = c.args.index.now in
+    let s = c.sizes_after-sizes.result in
+    let b : CodeAct Subblock = Out c.args.i in
+    let of : AreSizesOf s b x.tiles.items = subst (AreSizesOf s b) c.deref.ensures.value (sizes_out s c.deref.result.now c.args.i c.sizes_after-sizes.ensures.sizes) in
+    rw (p.1, p.2) (no_place x c.args.space.now b [] c.total-size.result s.middle c.in_err-out.field-0.0 c.requires.of_index (c.requires.inside, tt) tt (c.total-size.ensures ∙ size_of_act s b x of) (range_of_act s b x of) c.in_err-out.ensures.full.0 c.in_err-out.ensures.full.1)
 
 pub returns-in_err-stage_removal-clause-full : goal.returns-in_err-stage_removal-clause-full
 returns-in_err-stage_removal-clause-full c =
     let p = err_from_is_err_and c.from_residual-in_err-stage_removal.result c.from_residual-in_err-stage_removal.ensures.1 in
-    rw (p.1, p.2) (no_memory c.args.index.now c.args.space.now c.args.i c.in_ok-out.field-0 c.requires.of_index c.requires.inside c.in_ok-out.ensures.place)
+    let x : Index = c.args.index.now in
+    let s = c.sizes_after-sizes.result in
+    let b : CodeAct Subblock = Out c.args.i in
+    let of : AreSizesOf s b x.tiles.items = subst (AreSizesOf s b) c.deref.ensures.value (sizes_out s c.deref.result.now c.args.i c.sizes_after-sizes.ensures.sizes) in
+    rw (p.1, p.2) (no_memory x c.args.space.now b [] c.total-size.result s.middle c.in_ok-out.field-0 c.requires.of_index (c.requires.inside, tt) tt (c.total-size.ensures ∙ size_of_act s b x of) (range_of_act s b x of) c.in_ok-out.ensures.place)
+
+pub returns-clause-plan : goal.returns-clause-plan
+returns-clause-plan c =
+    is_plan c.args.index.now c.args.space.now (Out c.args.i) (taken_out c.args.i) c.stage_removal.new.region _ c.stage_removal.new.out c.requires.of_index c.in_ok-stage_removal.ensures
+
+pub returns-clause-does : goal.returns-clause-does
+returns-clause-does c =
+    does c.args.index.now c.args.space.now (Out c.args.i) (taken_out c.args.i) c.stage_removal.new.region _ c.stage_removal.new.out c.requires.of_index c.in_ok-stage_removal.ensures
+
+pub returns-clause-held : goal.returns-clause-held
+returns-clause-held c = few_held (Out c.args.i) c.args.index.now c.stage_removal.new.out.held.items c.in_ok-stage_removal.ensures.held

@@ -2,7 +2,7 @@ use Rattle.std.proofs.Common.{◌≡◌, List, map, sym, ◌∙◌, subst, arith
 use Rattle.czi_num.specs.Span.{span_of}
 use Rattle.czi_num.specs.declared.span.Span.{Span as CodeSpan}
 use Rattle.czi_space.specs.State.{AreExtents}
-use Rattle.czi_plan.proofs.Removing.{free_extents}
+use Rattle.czi_plan.proofs.Parts.{free_extents}
 use Rattle.czi_plan.proofs.tests.map_of.Goals as goal
 
 pub of_runs-requires : goal.of_runs-requires

@@ -1,7 +1,7 @@
 use Rattle.std.proofs.Common.{◌≡◌, ◌*◌, ◌≤◌, map, sum, take}
 use Rattle.czi_format.specs.Entry.{entry_len}
 use Rattle.czi_plan.specs.Directory.{entries_of}
-use Rattle.czi_plan.proofs.directory.entries_len.Given as goal
+use Rattle.czi_plan.proofs.tiles.entries_len.Given as goal
 
 abbrev pub invariant-loop-tile : goal.invariant-loop-tile
 invariant-loop-tile l = record {

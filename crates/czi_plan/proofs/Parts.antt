@@ -1,24 +1,24 @@
--- Where a need goes; what a plan uses and frees among the extents of its map; and what a removal does of that, among what is live.
-use Rattle.std.proofs.Common.{◌≡◌, ℕ, ◌+◌, ◌-◌, ◌<◌, ◌≤◌, ◌^◌, List, [], ◌∷◌, max, min, nat_le, nat_lt, true, false, Option, Some, None, Result, Ok, refl, sym, subst, arith, inl, inr, ◌⊎◌, ◌%◌, map, filter, Bool, not, length, ◌*◌, zero, suc, ◌++◌, get_or, option_map, option_to_list, ap, ◌∙◌}
+-- Where a need goes; what a plan uses and frees among the extents of its map; and what an act on the subblocks does of that, among what is live.
+use Rattle.std.proofs.Common.{◌≡◌, ℕ, ◌+◌, ◌-◌, ◌<◌, ◌≤◌, ◌^◌, List, [], ◌∷◌, max, min, nat_le, nat_lt, true, false, Option, Some, None, Result, Ok, refl, sym, subst, arith, inl, inr, ◌⊎◌, ◌%◌, map, filter, Bool, not, length, ◌*◌, ◌++◌, option_map, option_to_list, ap, ◌∙◌, append-nil, length-append, drop}
 use Rattle.std.specs.List.{AllByRecursion, find, flat_map, list_any}
 use Rattle.std.proofs.lemmas.Bool.{cases_Bool, cases_lt, ltb-true, lt-ltb, le-ltb, leb-true, ltb-false}
-use Rattle.std.proofs.lemmas.List.{map-append}
+use Rattle.std.proofs.lemmas.List.{map-append, length-map, length-take}
 use Rattle.std.proofs.lemmas.List.Elements.{filter-append}
 use Rattle.czi_format.specs.Span.{Span, end_of, meets, round32, is_aligned, AreDisjoint, span_le, sorted}
 use Rattle.czi_format.specs.Space.{Space, Full, from_to, left_of, without, place_for, place_in, place_past, use_all, free_runs, Fit, fit, use_span, with_freed, deleted_after}
 use Rattle.czi_space.specs.State.{AreExtents, LiesInOne, IsWhole as IsWholeExtent, MeetsNone, MapState, space_of}
 use Rattle.czi_space.proofs.Found.{runs-use_all}
-use Rattle.czi_machine.proofs.Tiled.{All-both, All-weaken, map-All, All-filter}
+use Rattle.czi_machine.proofs.Tiled.{All-both, All-weaken, map-All, All-filter, All-map}
 use Rattle.czi_format.specs.Layout.{Place}
 use Rattle.czi_format.proofs.Rules.{on_ok}
 use Rattle.czi_machine.specs.Cover.{between, cover, IsWhole}
 use Rattle.czi_machine.specs.Holes.{holes, interior}
-use Rattle.czi_machine.specs.Places.{can_be_used}
+use Rattle.czi_machine.specs.Places.{can_be_used, subblock_need}
 use Rattle.czi_machine.specs.State.{spans_of}
 use Rattle.czi_machine.proofs.Cover.{without_in, without_out, without_none, cover-sorted, cover-with_freed, cover-deleted_after, cover-append}
 use Rattle.czi_machine.proofs.Keeps.{aligned_whole, without_whole, deleted_after_whole}
 use Rattle.czi_machine.proofs.Leaving.{cover-split}
-use Rattle.czi_machine.proofs.Placing.{without_fewer, covers_own, freed_whole}
+use Rattle.czi_machine.proofs.Placing.{without_fewer, covers_own, freed_whole, in_one_covers}
 use Rattle.czi_spans.specs.Apart.{AreApart}
 use Rattle.czi_spans.proofs.Sorting.{all_sorted}
 use Rattle.czi_machine.proofs.Steady.{disjoint_few}
@@ -30,15 +30,25 @@ use Rattle.czi_image.specs.declared.index.Index.{Index}
 use Rattle.czi_image.specs.declared.types.DirItem.{DirItem}
 use Rattle.czi_image.specs.declared.types.Tile.{Tile}
 use Rattle.czi_num.specs.Span.{span_of}
+use Rattle.czi_num.specs.declared.span.Span.{Span as CodeSpan}
 use Rattle.czi_format.proofs.Local.{All-append}
 use Rattle.czi_plan.specs.Geometry.{AreUsed, AreFreed, IsLong, AreParts}
 use Rattle.czi_plan.specs.Plan.{usable_of, dead_of, left_directory}
 use Rattle.czi_plan.proofs.Order.{at_place, sorted_again}
-use Rattle.czi_plan.proofs.Brief.{length-sorted, spans_fewer}
+use Rattle.czi_plan.proofs.Brief.{length-sorted, spans_both}
 use Rattle.czi_plan.specs.Conditions.{IsMapOf}
 use Rattle.czi_plan.specs.Directory.{need_of}
 use Rattle.czi_plan.specs.Listing.{IsPlace}
-use Rattle.czi_plan.proofs.Entries.{all_at}
+use Rattle.czi_machine.proofs.InOne.{in_without}
+use Rattle.czi_machine.proofs.Clear.{map-map}
+use Rattle.czi_image.specs.declared.change.Act.{Act as CodeAct}
+use Rattle.czi_image.specs.declared.change.Act.TheVariants.{Out, Put, Into}
+use Rattle.czi_format.specs.Document.{Subblock}
+use Rattle.czi_machine.specs.Change.{Change}
+use Rattle.czi_region.specs.declared.block.Region.{Region}
+use Rattle.czi_region.specs.declared.block.Piece.{Piece as Range}
+use Rattle.czi_plan.specs.Changing.{Brings, IsNew, all_left, items_left, new_spans, space_behind, tiles_before, tiles_behind, tiles_brought, tiles_leaving}
+use Rattle.czi_plan.proofs.Acts.{act_parts, map-three}
 
 -- a part of a span that lies in one of the extents
 pub lies_sub : (r x : Span) (es : List Span) → x.at ≤ r.at → end_of r ≤ end_of x → LiesInOne x es → LiesInOne r es
@@ -186,28 +196,63 @@ all_three : (P Q R : Span → Type 0) (xs : List Span) → AllByRecursion P xs �
 all_three P Q R [] a b c = tt
 all_three P Q R (x ∷ xs) a b c = ((a.0, b.0, c.0), all_three P Q R xs a.1 b.1 c.1)
 
-pub used_place : (n need : ℕ) (held es : List Span) (s : Span) → AreExtents 0 n es → AllByRecursion IsWhole held → place_for (record { runs = free_runs held es; length = n }) need ≡ Ok s.at → s.len ≡ need → need % 32 ≡ 0 → 0 < need → IsUsed n held es s
-used_place n need held es s rise whole e long even some = elim (placed _ need s.at e) [
-  | past at ends ↦ record {
-    whole = record { at = omega (arith, at); len = omega (arith, long, even); some = omega (arith, long, some) };
-    lies = inr (omega (arith, at));
-    free = λ q h k. inr (omega (arith, at, h));
-  }
-  | in_run run there at ↦
-      let runs : List Span = without held es in
-      let all = all_three IsWhole (λ r. LiesInOne r es) (λ (r : Span). (q : ℕ) → between r.at (end_of r) q ≤ cover runs q) runs (without_whole held es whole (extents_whole 0 n es rise)) (left_in_one held es) (covers_own runs) in
-      let found = found_all need (λ r. IsWhole r × LiesInOne r es × ((q : ℕ) → between r.at (end_of r) q ≤ cover runs q)) runs run all there in
-      record {
-        whole = record { at = omega (arith, at, found.0.0.at); len = omega (arith, long, even); some = omega (arith, long, some) };
-        lies = inl (lies_sub s run es (omega (arith, at)) (omega (arith, at, long, found.1)) found.0.1);
-        free = λ q h k. inl (omega (arith, found.0.2 q, at_place, at, h, k, long, found.1));
-      }
-]
+pub ends_none : (n p : ℕ) (xs : List Span) → AllByRecursion (λ (s : Span). end_of s ≤ n) xs → n ≤ p → cover xs p ≡ 0
+ends_none n p [] all h = refl
+ends_none n p (x ∷ xs) all h = omega (arith, at_place, all.0, h, ends_none n p xs all.1 h)
 
-lies_covers : (s : Span) (es : List Span) (p : ℕ) → LiesInOne s es → between s.at (end_of s) p ≤ cover es p
-lies_covers s [] p lies = absurd lies
-lies_covers s (e ∷ es) p (inl i) = omega (arith, at_place, i.0, i.1)
-lies_covers s (e ∷ es) p (inr i) = omega (arith, lies_covers s es p i)
+-- a space where spans were used is as long as before, and none of them ends past its length
+pub use_all_ends : (space : Space) (used : List Span) → (space.length ≤ (use_all space used).length) × AllByRecursion (λ (t : Span). end_of t ≤ (use_all space used).length) used
+use_all_ends space [] = (omega arith, tt)
+use_all_ends space (s ∷ used) = let rest = use_all_ends (use_span space s) used in (omega (arith, rest.0), (omega (arith, rest.0), rest.1))
+
+use_all_most : (most : ℕ) (space : Space) (used : List Span) → space.length ≤ most → AllByRecursion (λ (t : Span). end_of t ≤ most) used → (use_all space used).length ≤ most
+use_all_most most space [] low all = low
+use_all_most most space (s ∷ used) low all = use_all_most most (use_span space s) used (omega (arith, low, all.0)) all.1
+
+-- Where a need goes once other spans were used, and the end so far.
+pub record IsFound (n : ℕ) (held es used : List Span) (end : ℕ) (s : Span) : Type 0 where
+  pub is_used : IsUsed n held es s
+  pub apart : (q : ℕ) → s.at ≤ q → q < end_of s → cover used q ≡ 0
+  pub near : s.at ≤ end + 31
+
+found : (n need : ℕ) (held es used : List Span) (s : Span) → AreExtents 0 n es → AllByRecursion IsWhole held → AllByRecursion IsWhole used → need % 32 ≡ 0 → 0 < need
+    → fit (use_all (record { runs = free_runs held es; length = n }) used) need ≡ Ok (record { span = s; space = use_span (use_all (record { runs = free_runs held es; length = n }) used) s })
+    → IsFound n held es used (use_all (record { runs = free_runs held es; length = n }) used).length s
+found n need held es used s rise whole whole' even some e =
+    let start : Space = record { runs = free_runs held es; length = n } in
+    let space : Space = use_all start used in
+    let ends = use_all_ends start used in
+    let at = fit_place space need (record { span = s; space = use_span space s }) e in
+    elim (placed space need s.at at.0) [
+      | past is low ↦ record {
+        is_used = record {
+          whole = record { at = omega (arith, is); len = omega (arith, at.1, even); some = omega (arith, at.1, some) };
+          lies = inr (omega (arith, is, ends.0));
+          free = λ q h k. inr (omega (arith, is, h, ends.0));
+        };
+        apart = λ q h k. ends_none space.length q used ends.1 (omega (arith, is, h));
+        near = omega (arith, is);
+      }
+      | in_run run there is ↦
+          let runs : List Span = without used (without held es) in
+          let there' : find (λ (r : Span). nat_le need r.len) runs ≡ Some run = ap (find (λ (r : Span). nat_le need r.len)) (sym (runs-use_all start used)) ∙ there in
+          let all = all_three IsWhole (λ r. LiesInOne r es) (λ (r : Span). (q : ℕ) → between r.at (end_of r) q ≤ cover runs q) runs
+          (without_whole used (without held es) whole' (without_whole held es whole (extents_whole 0 n es rise))) (without_lies used (without held es) es (left_in_one held es)) (covers_own runs) in
+          let one = found_all need (λ r. IsWhole r × LiesInOne r es × ((q : ℕ) → between r.at (end_of r) q ≤ cover runs q)) runs run all there' in
+          let there_is : (q : ℕ) → s.at ≤ q → q < end_of s → 1 ≤ cover runs q = λ q h k. omega (arith, one.0.2 q, at_place, is, h, k, at.1, one.1) in
+          record {
+            is_used = record {
+              whole = record { at = omega (arith, is, one.0.0.at); len = omega (arith, at.1, even); some = omega (arith, at.1, some) };
+              lies = inl (lies_sub s run es (omega (arith, is)) (omega (arith, is, at.1, one.1)) one.0.1);
+              free = λ q h k. inl (omega (arith, there_is q h k, without_fewer used (without held es) q));
+            };
+            apart = λ q h k. (elim (cases_lt 0 (cover used q)) [
+              | inl l ↦ absurd (omega (arith, there_is q h k, without_in used (without held es) q (omega (arith, l))))
+              | inr l ↦ omega (arith, l)
+            ]);
+            near = omega (arith, is, in_one_ends 0 n es run rise one.0.1, ends.0);
+          }
+    ]
 
 interior_covers : (s : Span) (es : List Span) (q : ℕ) → AllByRecursion IsWhole es → LiesInOne s es → s.at + 32 ≤ q → q < end_of s → 1 ≤ cover (map interior es) q
 interior_covers s [] q whole lies h k = absurd lies
@@ -226,10 +271,6 @@ used_free n held es s q rise used h k = elim used.lies [
     ]
   ]
 ]
-
-pub ends_none : (n p : ℕ) (xs : List Span) → AllByRecursion (λ (s : Span). end_of s ≤ n) xs → n ≤ p → cover xs p ≡ 0
-ends_none n p [] all h = refl
-ends_none n p (x ∷ xs) all h = omega (arith, at_place, all.0, h, ends_none n p xs all.1 h)
 
 pub extents_ends : (from n : ℕ) (es : List Span) → AreExtents from n es → AllByRecursion (λ (s : Span). end_of s ≤ n) es
 extents_ends from n [] e = tt
@@ -278,8 +319,49 @@ pub record AreGone (n : ℕ) (h : Span) (G : List Place) (kept es : List Span) :
   pub kept_ends : AllByRecursion (λ (s : Span). end_of s ≤ n) kept
   pub once : (p : ℕ) → between h.at (end_of h) p + (cover (spans_of G) p + cover kept p) + cover es p ≤ 1
 
+-- What needs were given, one after another.
+pub record AreFound (n : ℕ) (held es used : List Span) : Type 0 where
+  pub each : AllByRecursion (IsUsed n held es) used
+  pub once : (q : ℕ) → cover used q ≤ 1
+
+pub none_found : (n : ℕ) (held es : List Span) → AreFound n held es []
+none_found n held es = record { each = tt; once = λ q. omega arith }
+
+pub found_more : (n : ℕ) (held es used : List Span) (end : ℕ) (s : Span) → AreFound n held es used → IsFound n held es used end s → AreFound n held es (used ++ s ∷ [])
+found_more n held es used end s all one = record {
+  each = All-both (IsUsed n held es) used (s ∷ []) all.each (one.is_used, tt);
+  once = λ q. (elim (cases_lt q s.at) [
+    | inl h ↦ omega (arith, cover-append used (s ∷ []) q, at_place, h, all.once q)
+    | inr h ↦ elim (cases_lt q (end_of s)) [
+      | inl k ↦ omega (arith, cover-append used (s ∷ []) q, at_place, one.apart q h k)
+      | inr k ↦ omega (arith, cover-append used (s ∷ []) q, at_place, k, all.once q)
+    ]
+  ]);
+}
+
+abbrev pub LiesOrPast : ℕ → List Span → Span → Type 0
+LiesOrPast n es s = LiesInOne s es ⊎ (n ≤ s.at)
+
+-- one after another they lie in what the earlier ones left
+all_used : (n : ℕ) (used es : List Span) → AllByRecursion IsWhole used → AllByRecursion (LiesOrPast n es) used → ((q : ℕ) → cover used q ≤ 1) → AreUsed n used es
+all_used n [] es whole lie once = tt
+all_used n (s ∷ used) es whole lie once =
+    let avoid : AllByRecursion (λ t. IsWhole t × LiesOrPast n es t × ((q : ℕ) → between t.at (end_of t) q ≤ cover used q)) used
+    = all_three IsWhole (LiesOrPast n es) (λ (t : Span). (q : ℕ) → between t.at (end_of t) q ≤ cover used q) used whole.1 lie.1 (covers_own used) in
+    let still : AllByRecursion (LiesOrPast n (without (s ∷ []) es)) used
+    = All-weaken (λ t. IsWhole t × LiesOrPast n es t × ((q : ℕ) → between t.at (end_of t) q ≤ cover used q)) (LiesOrPast n (without (s ∷ []) es))
+    (λ t h. elim h.1 [ inl i ↦ inl (in_without t (s ∷ []) es h.0.some i (λ q k. omega (arith, k, h.2 q, once q))) | inr p ↦ inr p ]) used avoid in
+    (from_whole s whole.0, lie.0, all_used n used (without (s ∷ []) es) whole.1 still (λ q. omega (arith, once q)))
+
+all_below : (n p : ℕ) (used es : List Span) → AllByRecursion (LiesOrPast n es) used → p < n → 1 ≤ cover used p → 1 ≤ cover es p
+all_below n p [] es lie h some = absurd (omega (arith, some))
+all_below n p (s ∷ used) es lie h some = elim (cases_lt 0 (between s.at (end_of s) p)) [
+  | inr a ↦ all_below n p used es lie.1 h (omega (arith, a, some))
+  | inl a ↦ elim lie.0 [ inl i ↦ omega (arith, a, in_one_covers s es p i) | inr past' ↦ absurd (omega (arith, at_place, a, past', h)) ]
+]
+
 -- What is used, one span after another.
-pub record AreTaken (n top : ℕ) (held es used : List Span) : Type 0 where
+pub record AreTaken (n top : ℕ) (es used : List Span) : Type 0 where
   pub whole : AllByRecursion IsWhole used
   pub long : AllByRecursion (λ (s : Span). 32 ≤ s.len) used
   pub ends : AllByRecursion (λ (s : Span). end_of s ≤ top) used
@@ -287,34 +369,34 @@ pub record AreTaken (n top : ℕ) (held es used : List Span) : Type 0 where
   pub apart : (p : ℕ) → cover used p + cover (without used es) p ≤ 1
   pub below : (p : ℕ) → p < n → cover used p ≤ cover es p
 
-pub none_taken : (n top : ℕ) (held es : List Span) → AreExtents 0 n es → ((p : ℕ) → cover es p ≤ 1) → AreTaken n top held es []
-none_taken n top held es rise once = record { whole = tt; long = tt; ends = tt; takes = tt; apart = λ p. omega (arith, once p); below = λ p h. omega arith }
+found_taken : (n top : ℕ) (held es used : List Span) → ((p : ℕ) → cover es p ≤ 1) → AreFound n held es used → AllByRecursion (λ (s : Span). 32 ≤ s.len) used → AllByRecursion (λ (s : Span). end_of s ≤ top) used → AreTaken n top es used
+found_taken n top held es used once all long ends =
+    let whole : AllByRecursion IsWhole used = All-weaken (IsUsed n held es) IsWhole (λ s u. u.whole) used all.each in
+    let lie : AllByRecursion (LiesOrPast n es) used = All-weaken (IsUsed n held es) (LiesOrPast n es) (λ s u. u.lies) used all.each in
+    record {
+      whole = whole;
+      long = long;
+      ends = ends;
+      takes = all_used n used es whole lie all.once;
+      apart = λ p. (elim (cases_lt 0 (cover used p)) [
+        | inl a ↦ omega (arith, all.once p, without_in used es p (omega (arith, a)))
+        | inr a ↦ omega (arith, without_out used es p (omega (arith, a)), once p, a)
+      ]);
+      below = λ p h. (elim (cases_lt 0 (cover used p)) [ inl a ↦ omega (arith, all.once p, all_below n p used es lie h (omega (arith, a))) | inr a ↦ omega (arith, a) ]);
+    }
 
-pub one_taken : (n top : ℕ) (held es : List Span) (s : Span) → AreExtents 0 n es → ((p : ℕ) → cover es p ≤ 1) → IsUsed n held es s → 32 ≤ s.len → end_of s ≤ top → AreTaken n top held es (s ∷ [])
-one_taken n top held es s rise once used long ends = record {
-  whole = (used.whole, tt);
-  long = (long, tt);
-  ends = (ends, tt);
-  takes = (from_whole s used.whole, used.lies, tt);
-  apart = λ p. (elim (cases_lt 0 (between s.at (end_of s) p)) [
-    | inl a ↦ omega (arith, at_place, without_in (s ∷ []) es p (omega (arith, a)))
-    | inr a ↦ omega (arith, without_out (s ∷ []) es p (omega (arith, a)), once p, a)
-  ]);
-  below = λ p h. elim used.lies [ inl i ↦ omega (arith, lies_covers s es p i) | inr past' ↦ omega (arith, at_place, past', h) ];
-}
-
-used_once : (n top : ℕ) (h : Span) (G : List Place) (kept held es used : List Span) (p : ℕ) → AreGone n h G kept es → AreTaken n top held es used
+used_once : (n top : ℕ) (h : Span) (G : List Place) (kept es used : List Span) (p : ℕ) → AreGone n h G kept es → AreTaken n top es used
     → cover used p + (between h.at (end_of h) p + (cover (spans_of G) p + (cover kept p + cover (without used es) p))) ≤ 1
-used_once n top h G kept held es used p gone taken = elim (cases_lt p n) [
+used_once n top h G kept es used p gone taken = elim (cases_lt p n) [
   | inl a ↦ omega (arith, taken.apart p, taken.below p a, without_fewer used es p, gone.once p)
   | inr a ↦ omega (arith, taken.apart p, at_place, a, gone.inside, ends_none n p (spans_of G) (map-All (λ (g : Place). g.span) (λ (t : Span). end_of t ≤ n) G gone.ends) a, ends_none n p kept gone.kept_ends a)
 ]
 
-pub are_parts : (n top : ℕ) (h : Span) (G : List Place) (kept held es used : List Span) → AreGone n h G kept es → AreTaken n top held es used → n ≤ top → top ≤ 2 ^ 62 → 2 * length used + length (usable_of G) + length (dead_of G) ≤ 6
+pub are_parts : (n top : ℕ) (h : Span) (G : List Place) (kept es used : List Span) → AreGone n h G kept es → AreTaken n top es used → n ≤ top → top ≤ 2 ^ 62 → 2 * length used + length (usable_of G) + length (dead_of G) ≤ 6
     → AreParts n top used (sorted span_le (usable_of G)) (dead_of G) kept es
-are_parts n top h G kept held es used gone taken longer small few =
+are_parts n top h G kept es used gone taken longer small few =
     let F : List Span = sorted span_le (usable_of G) in
-    let once = λ (p : ℕ). used_once n top h G kept held es used p gone taken in
+    let once = λ (p : ℕ). used_once n top h G kept es used p gone taken in
     let split : (p : ℕ) → cover F p + cover (dead_of G) p ≡ cover (spans_of G) p = λ p. omega (arith, cover-split can_be_used G p, cover-sorted (usable_of G) p) in
     let after : (p : ℕ) → cover (deleted_after used F es) p ≡ cover F p + cover (without used es) p = λ p. cover-deleted_after used F es p in
     let freed_ok : AllByRecursion IsWhole F = all_sorted span_le IsWhole (usable_of G) (freed_whole G (All-weaken _ (λ (p : Place). 0 < p.span.len) (λ p k. omega (arith, k)) G gone.long)) in
@@ -376,31 +458,57 @@ of_both P Patched old all = (tt, all)
 of_both P (New d) None all = (tt, tt)
 of_both P (New d) (Some e) all = ((all.0, tt), tt)
 
-cover_at : {X : Type 0} (f : X → Span) (xs : List X) (i : ℕ) (x : X) (p : ℕ) → i < length xs → x ≡ get_or xs i x → between (f x).at (end_of (f x)) p ≤ cover (map f xs) p
-cover_at f [] i x p h e = absurd (omega arith)
-cover_at f (y ∷ ys) zero x p h e = omega (arith, ap (λ z. between (f z).at (end_of (f z)) p) e)
-cover_at f (y ∷ ys) (suc i) x p h e = omega (arith, cover_at f ys i x p (omega arith) e)
+-- what holds of each holds of all of a list
+pub each_of : {X : Type 0} (P : X → Type 0) → ((x : X) → P x) → (xs : List X) → AllByRecursion P xs
+each_of P f [] = tt
+each_of P f (x ∷ xs) = (f x, each_of P f xs)
 
-pub are_gone : (x : Index) (m : MapState) (i : ℕ) (t : Tile) (c : DirectoryChange) → IsMapOf x m → i < length x.tiles.items → t ≡ get_or x.tiles.items i t
-    → AreGone m.length (header_span x.header) (tile_place t ∷ left_directory c x.directory) (kept_of c x.directory) m.extents
-are_gone x m i t c is h e =
+pub tile_spans : (ts : List Tile) → spans_of (map tile_place ts) ≡ map tile_span ts
+tile_spans ts = map-map tile_place (λ (p : Place). p.span) ts
+
+-- the spans of the subblocks before an act, of those that leave, and of those behind
+pub act_spans : {X : Type 0} (a : CodeAct X) (ts : List Tile) → map tile_span ts ≡ map tile_span (tiles_before a ts) ++ (map tile_span (tiles_leaving a ts) ++ map tile_span (tiles_behind a ts))
+act_spans a ts = ap (map tile_span) (act_parts a ts) ∙ map-three tile_span (tiles_before a ts) (tiles_leaving a ts) (tiles_behind a ts)
+
+pub left_cover : (a : CodeAct Tile) (d : DirectoryChange) (x : Index) (q : ℕ) → cover (spans_of (all_left a d x)) q ≡ cover (map tile_span (tiles_leaving a x.tiles.items)) q + cover (spans_of (left_directory d x.directory)) q
+left_cover a d x q = omega (
+  arith,
+  ap (λ l. cover l q) (map-append (λ (p : Place). p.span) (items_left a x) (left_directory d x.directory)),
+  cover-append (spans_of (items_left a x)) (spans_of (left_directory d x.directory)) q,
+  ap (λ l. cover l q) (tile_spans (tiles_leaving a x.tiles.items)),
+)
+
+are_gone : (x : Index) (m : MapState) (a : CodeAct Tile) (d : DirectoryChange) → IsMapOf x m → AreGone m.length (header_span x.header) (all_left a d x) (kept_of d x.directory) m.extents
+are_gone x m a d is =
     let D : List Span = option_to_list (option_map directory_span x.directory) in
     let T : List Span = map tile_span x.tiles.items in
+    let L : List Tile = tiles_leaving a x.tiles.items in
+    let P : Span → Type 0 = λ s. end_of s ≤ m.length in
     let R : List Span = option_to_list (option_map directory_span x.attdir) ++ (map att_item_span x.attachments.items ++ option_to_list (option_map meta_item_span x.metadata)) in
-    let behind = All-append (λ s. end_of s ≤ x.length) D (T ++ R) x.inside.1 in
-    let tiles = All-append (λ s. end_of s ≤ x.length) T R behind.1 in
-    let tile_ends : end_of (tile_span t) ≤ x.length = subst (λ (z : Tile). end_of (tile_span z) ≤ x.length) (sym e) (all_at tile_span (λ s. end_of s ≤ x.length) x.tiles.items i t tiles.0 h) in
-    let dirs : AllByRecursion (λ (s : Span). end_of s ≤ m.length) D = subst (λ n. AllByRecursion (λ (s : Span). end_of s ≤ n) (option_to_list (option_map directory_span x.directory))) is.length behind.0 in
+    let live : AllByRecursion P (live_of x) = subst (λ n. AllByRecursion (λ (s : Span). end_of s ≤ n) (live_of x)) is.length x.inside in
+    let behind = All-append P D (T ++ R) live.1 in
+    let tiles = All-append P (map tile_span (tiles_before a x.tiles.items)) _ (subst (AllByRecursion P) (act_spans a x.tiles.items) (All-append P T R behind.1).0) in
+    let leaving : AllByRecursion P (map tile_span L) = (All-append P (map tile_span L) _ tiles.1).0 in
     record {
       front = refl;
       header = omega (arith, x.headed);
-      inside = omega (arith, x.inside.0, is.length);
+      inside = live.0;
       rise = map_extents x m is;
-      long = (omega (arith, t.extent), (of_both (λ t. 32 ≤ t.len) c x.directory (own_long x.directory)).0);
-      ends = (omega (arith, tile_ends, is.length), (of_both (λ t. end_of t ≤ m.length) c x.directory dirs).0);
-      kept_long = (of_both (λ t. 32 ≤ t.len) c x.directory (own_long x.directory)).1;
-      kept_ends = (of_both (λ t. end_of t ≤ m.length) c x.directory dirs).1;
-      once = λ p. omega (arith, live_once x m p is, one_of_both c x.directory p, cover-append D (T ++ R) p, cover-append T R p, cover_at tile_span x.tiles.items i t p h e);
+      long = All-both (λ (p : Place). 32 ≤ p.span.len) (items_left a x) (left_directory d x.directory) (map-All tile_place (λ (p : Place). 32 ≤ p.span.len) L (each_of _ (λ t. omega (arith, t.extent)) L)) (of_both (λ t. 32 ≤ t.len) d x.directory (own_long x.directory)).0;
+      ends = All-both (λ (p : Place). end_of p.span ≤ m.length) (items_left a x) (left_directory d x.directory) (map-All tile_place (λ (p : Place). end_of p.span ≤ m.length) L (All-map tile_span P L leaving)) (of_both P d x.directory behind.0).0;
+      kept_long = (of_both (λ t. 32 ≤ t.len) d x.directory (own_long x.directory)).1;
+      kept_ends = (of_both P d x.directory behind.0).1;
+      once = λ p. omega (
+        arith,
+        live_once x m p is,
+        left_cover a d x p,
+        one_of_both d x.directory p,
+        cover-append D (T ++ R) p,
+        cover-append T R p,
+        ap (λ l. cover l p) (act_spans a x.tiles.items),
+        cover-append (map tile_span (tiles_before a x.tiles.items)) (map tile_span L ++ map tile_span (tiles_behind a x.tiles.items)) p,
+        cover-append (map tile_span L) (map tile_span (tiles_behind a x.tiles.items)) p,
+      );
     }
 
 -- what is used, and the length then
@@ -428,44 +536,121 @@ length_by (New d) n = max n (d.span.at + d.span.len)
 extents_once : (x : Index) (m : MapState) (p : ℕ) → IsMapOf x m → cover m.extents p ≤ 1
 extents_once x m p is = omega (arith, live_once x m p is)
 
-pub new_used : (x : Index) (m : MapState) (size : ℕ) (d : DirItem) → IsMapOf x m → fit (space_of m) (need_of size) ≡ Ok (record { span = directory_span d; space = use_span (space_of m) (directory_span d) })
-    → IsUsed m.length m.held m.extents (directory_span d)
-new_used x m size d is fits =
-    let at = fit_place (space_of m) (need_of size) (record { span = directory_span d; space = use_span (space_of m) (directory_span d) }) fits in
-    used_place m.length (need_of size) m.held m.extents (directory_span d) (map_extents x m is) (All-weaken IsWholeExtent IsWhole to_whole m.held is.held) at.0 at.1 (omega arith) (omega arith)
+-- a need of a map, once other spans were used
+found_in : (x : Index) (m : MapState) (need : ℕ) (used : List Span) (s : Span) → IsMapOf x m → AreFound m.length m.held m.extents used → need % 32 ≡ 0 → 0 < need
+    → fit (use_all (space_of m) used) need ≡ Ok (record { span = s; space = use_span (use_all (space_of m) used) s }) → IsFound m.length m.held m.extents used (use_all (space_of m) used).length s
+found_in x m need used s is all even some fits =
+    found m.length need m.held m.extents used s (map_extents x m is) (All-weaken IsWholeExtent IsWhole to_whole m.held is.held) (All-weaken (IsUsed m.length m.held m.extents) IsWhole (λ t u. u.whole) used all.each) even some fits
 
-pub are_taken : (x : Index) (m : MapState) (old : Option DirItem) (size range : ℕ) (c : DirectoryChange) → IsMapOf x m → IsPlace x old size range (space_of m) c
-    → AreTaken m.length (length_by c m.length) m.held m.extents (used_by c)
-are_taken x m old size range Kept is place = absurd place
-are_taken x m old size range Patched is place = none_taken m.length m.length m.held m.extents (map_extents x m is) (λ p. extents_once x m p is)
-are_taken x m old size range (New d) is place =
-    one_taken m.length (length_by (New d) m.length) m.held m.extents (directory_span d) (map_extents x m is) (λ p. extents_once x m p is) (new_used x m size d is place.1) d.long (omega arith)
+-- a new subblock
+pub tile_found : (x : Index) (m : MapState) (s : Subblock) (t : Tile) → IsMapOf x m → IsNew x m s t → IsFound m.length m.held m.extents [] m.length (tile_span t)
+tile_found x m s t is new = found_in x m (subblock_need s) [] (tile_span t) is (none_found m.length m.held m.extents) (omega arith) (omega arith) new.fits
 
-pub length_small : (x : Index) (m : MapState) (c : DirectoryChange) → IsMapOf x m → (m.length ≤ length_by c m.length) × (length_by c m.length ≤ 2 ^ 62)
-length_small x m Kept is = (omega arith, omega (arith, x.small, is.length))
-length_small x m Patched is = (omega arith, omega (arith, x.small, is.length))
-length_small x m (New d) is = (omega arith, omega (arith, x.small, is.length, d.ends))
+pub brought_found : (x : Index) (m : MapState) (region : Region) (a : CodeAct Tile) (c : Change Subblock) (writes : List (ℕ × Range)) → IsMapOf x m → Brings x m region a c writes → AreFound m.length m.held m.extents (new_spans a)
+brought_found x m region (Out i) c writes is b = none_found m.length m.held m.extents
+brought_found x m region (Put i t) c writes is b = found_more m.length m.held m.extents [] m.length (tile_span t) (none_found m.length m.held m.extents) (tile_found x m b.0 t is b.2)
+brought_found x m region (Into i t) c writes is b = found_more m.length m.held m.extents [] m.length (tile_span t) (none_found m.length m.held m.extents) (tile_found x m b.0 t is b.2)
 
-few_by : (t : Place) (c : DirectoryChange) (old : Option DirItem) → 2 * length (used_by c) + length (usable_of (t ∷ left_directory c old)) + length (dead_of (t ∷ left_directory c old)) ≤ 6
-few_by t c old = omega (arith, used_few c, left_few c old, spans_fewer can_be_used (t ∷ left_directory c old), spans_fewer (λ (p : Place). not (can_be_used p)) (t ∷ left_directory c old))
+-- and a new directory behind it
+pub new_found : (x : Index) (m : MapState) (size : ℕ) (used : List Span) (d : DirItem) → IsMapOf x m → AreFound m.length m.held m.extents used
+    → fit (use_all (space_of m) used) (need_of size) ≡ Ok (record { span = directory_span d; space = use_span (use_all (space_of m) used) (directory_span d) }) → IsFound m.length m.held m.extents used (use_all (space_of m) used).length (directory_span d)
+new_found x m size used d is all fits = found_in x m (need_of size) used (directory_span d) is all (omega arith) (omega arith) fits
+
+pub directory_found : (x : Index) (m : MapState) (old : Option DirItem) (size range : ℕ) (used : List Span) (d : DirectoryChange) → IsMapOf x m → AreFound m.length m.held m.extents used → IsPlace x old size range (use_all (space_of m) used) d
+    → AreFound m.length m.held m.extents (used ++ used_by d)
+directory_found x m old size range used Kept is all place = absurd place
+directory_found x m old size range used Patched is all place = subst (AreFound m.length m.held m.extents) (sym (append-nil used)) all
+directory_found x m old size range used (New d) is all place = found_more m.length m.held m.extents used (use_all (space_of m) used).length (directory_span d) all (new_found x m size used d is all place.1)
+
+-- the length afterwards
+abbrev pub length_after : CodeAct Tile → DirectoryChange → MapState → ℕ
+length_after a d m = length_by d (space_behind a m).length
+
+pub length_small : (x : Index) (m : MapState) (a : CodeAct Tile) (d : DirectoryChange) → IsMapOf x m → (m.length ≤ (space_behind a m).length) × ((space_behind a m).length ≤ length_after a d m) × (length_after a d m ≤ 2 ^ 62)
+length_small x m a d is =
+    let low = (use_all_ends (space_of m) (new_spans a)).0 in
+    let most : (space_behind a m).length ≤ 2 ^ 62 = use_all_most (2 ^ 62) (space_of m) (new_spans a) (omega (arith, x.small, is.length)) (map-All tile_span (λ (s : Span). end_of s ≤ 2 ^ 62) (tiles_brought a) (each_of _ (λ t. t.ends) (tiles_brought a))) in
+    (low, (by d).0, omega (arith, most, (by d).1))
+  where
+    by : (c : DirectoryChange) → ((space_behind a m).length ≤ length_by c (space_behind a m).length) × (length_by c (space_behind a m).length ≤ max (space_behind a m).length (2 ^ 62))
+    by Kept = (omega arith, omega arith)
+    by Patched = (omega arith, omega arith)
+    by (New e) = (omega arith, omega (arith, e.ends))
+
+-- what holds of what is brought and of a new directory
+of_used : (P : Span → Type 0) (a : CodeAct Tile) (d : DirectoryChange) → AllByRecursion P (new_spans a) → ((e : DirItem) → d ≡ New e → P (directory_span e)) → AllByRecursion P (new_spans a ++ used_by d)
+of_used P a d all one = All-both P (new_spans a) (used_by d) all (by d one)
+  where
+    by : (c : DirectoryChange) → ((e : DirItem) → c ≡ New e → P (directory_span e)) → AllByRecursion P (used_by c)
+    by Kept f = tt
+    by Patched f = tt
+    by (New e) f = (f e refl, tt)
+
+are_taken : (x : Index) (m : MapState) (a : CodeAct Tile) (d : DirectoryChange) → IsMapOf x m → AreFound m.length m.held m.extents (new_spans a ++ used_by d) → AreTaken m.length (length_after a d m) m.extents (new_spans a ++ used_by d)
+are_taken x m a d is all =
+    let n : ℕ = (space_behind a m).length in
+    let long : AllByRecursion (λ (s : Span). 32 ≤ s.len) (new_spans a) = map-All tile_span (λ (s : Span). 32 ≤ s.len) (tiles_brought a) (each_of _ (λ t. omega (arith, t.extent)) (tiles_brought a)) in
+    let ends : AllByRecursion (λ (s : Span). end_of s ≤ length_after a d m) (new_spans a)
+    = All-weaken (λ (s : Span). end_of s ≤ n) (λ s. end_of s ≤ length_after a d m) (λ s h. omega (arith, h, (length_small x m a d is).1)) (new_spans a) (use_all_ends (space_of m) (new_spans a)).1 in
+    found_taken m.length (length_after a d m) m.held m.extents (new_spans a ++ used_by d) (λ p. extents_once x m p is) all (of_used (λ s. 32 ≤ s.len) a d long (λ e same. e.long))
+    (of_used (λ s. end_of s ≤ length_after a d m) a d ends (λ e same. omega (arith, ap (λ c. length_by c n) same)))
+
+few_brought : (a : CodeAct Tile) → length (tiles_brought a) ≤ 1
+few_brought (Out i) = omega arith
+few_brought (Put i t) = omega arith
+few_brought (Into i t) = omega arith
+
+few_leaving : (a : CodeAct Tile) (ts : List Tile) → length (tiles_leaving a ts) ≤ 1
+few_leaving (Out i) ts = omega (arith, length-take 1 (drop i ts))
+few_leaving (Put i t) ts = omega (arith, length-take 1 (drop i ts))
+few_leaving (Into i t) ts = omega arith
+
+-- one span at most is held back
+pub few_held : (a : CodeAct Tile) (x : Index) (held : List CodeSpan) → map span_of held ≡ usable_of (items_left a x) → length held ≤ 1
+few_held a x held is =
+    omega (arith, length-map held span_of, ap length is, spans_both can_be_used (items_left a x), length-map (tiles_leaving a x.tiles.items) tile_place, few_leaving a x.tiles.items)
+
+few_by : (a : CodeAct Tile) (d : DirectoryChange) (x : Index) → 2 * length (new_spans a ++ used_by d) + length (usable_of (all_left a d x)) + length (dead_of (all_left a d x)) ≤ 6
+few_by a d x = omega (
+  arith,
+  length-append (new_spans a) (used_by d),
+  length-map (tiles_brought a) tile_span,
+  few_brought a,
+  used_few d,
+  spans_both can_be_used (all_left a d x),
+  length-append (items_left a x) (left_directory d x.directory),
+  length-map (tiles_leaving a x.tiles.items) tile_place,
+  few_leaving a x.tiles.items,
+  left_few d x.directory,
+)
   where
     used_few : (c : DirectoryChange) → length (used_by c) ≤ 1
     used_few Kept = omega arith
     used_few Patched = omega arith
-    used_few (New d) = omega arith
+    used_few (New e) = omega arith
 
     left_few : (c : DirectoryChange) (old : Option DirItem) → length (left_directory c old) ≤ 1
     left_few Kept old = omega arith
     left_few Patched old = omega arith
-    left_few (New d) None = omega arith
-    left_few (New d) (Some e) = omega arith
+    left_few (New e) None = omega arith
+    left_few (New e) (Some f) = omega arith
 
--- the spans of a removal
-pub removal_parts : (x : Index) (m : MapState) (i : ℕ) (t : Tile) (size range : ℕ) (c : DirectoryChange) → IsMapOf x m → i < length x.tiles.items → t ≡ get_or x.tiles.items i t → IsPlace x x.directory size range (space_of m) c
-    → AreParts m.length (length_by c m.length) (used_by c) (sorted span_le (usable_of (tile_place t ∷ left_directory c x.directory))) (dead_of (tile_place t ∷ left_directory c x.directory)) (kept_of c x.directory) m.extents
-removal_parts x m i t size range c is h e place =
-    are_parts m.length (length_by c m.length) (header_span x.header) (tile_place t ∷ left_directory c x.directory) (kept_of c x.directory) m.held m.extents (used_by c)
-    (are_gone x m i t c is h e) (are_taken x m x.directory size range c is place) (length_small x m c is).0 (length_small x m c is).1 (few_by (tile_place t) c x.directory)
+-- the spans of an act
+pub parts_of : (x : Index) (m : MapState) (a : CodeAct Tile) (d : DirectoryChange) → IsMapOf x m → AreFound m.length m.held m.extents (new_spans a ++ used_by d)
+    → AreParts m.length (length_after a d m) (new_spans a ++ used_by d) (sorted span_le (usable_of (all_left a d x))) (dead_of (all_left a d x)) (kept_of d x.directory) m.extents
+parts_of x m a d is all =
+    are_parts m.length (length_after a d m) (header_span x.header) (all_left a d x) (kept_of d x.directory) m.extents (new_spans a ++ used_by d) (are_gone x m a d is) (are_taken x m a d is all)
+    (omega (arith, length_small x m a d is)) (length_small x m a d is).2 (few_by a d x)
+
+-- nothing live lies in what is used
+pub used_apart : (x : Index) (m : MapState) (a : CodeAct Tile) (d : DirectoryChange) (q : ℕ) → IsMapOf x m → AreFound m.length m.held m.extents (new_spans a ++ used_by d)
+    → cover (live_of x) q + (cover (new_spans a ++ used_by d) q + cover (without (new_spans a ++ used_by d) m.extents) q) ≤ 1
+used_apart x m a d q is all =
+    let taken = are_taken x m a d is all in
+    elim (cases_lt q m.length) [
+      | inl h ↦ omega (arith, live_once x m q is, taken.apart q, taken.below q h, without_fewer (new_spans a ++ used_by d) m.extents q)
+      | inr h ↦ omega (arith, taken.apart q, ends_none x.length q (live_of x) x.inside (omega (arith, h, is.length)))
+    ]
 
 pub spans_split : (q : Place → Bool) (xs ys : List Place) → spans_of (filter q (xs ++ ys)) ≡ spans_of (filter q xs) ++ spans_of (filter q ys)
 spans_split q xs ys = ap spans_of (filter-append q xs ys) ∙ map-append (λ (p : Place). p.span) (filter q xs) (filter q ys)

@@ -1,0 +1,154 @@
+//! The entries that a directory of subblocks has after an act, and how long they are.
+
+ghost use Rattle.std.specs.Prelude.{◌≡◌, ◌+◌, ◌-◌, ◌*◌, ◌^◌, ◌<◌, ◌≤◌, ◌∷◌, [], List, length, map, sum, take, drop};
+ghost use Rattle.czi_format.specs.Entry.{Entry, entry_len};
+ghost use Rattle.czi_image.specs.Change.{AreWithin};
+ghost use Rattle.czi_plan.specs.Changing.{back_entries, front_entries, middle_entries, tiles_before, tiles_behind, tiles_brought, tiles_leaving};
+ghost use Rattle.czi_plan.specs.Directory.{AreSizes, back_of, entries_of, listed_back, listed_front, listed_middle, middle_of};
+
+use czi_dv::entry_len;
+use czi_image::{Act, Tile};
+use std::slice;
+
+/// How long the parts of a directory's data are, in bytes.
+#[derive(Clone, Copy, PartialEq, Eq)]
+pub struct Sizes {
+    /// What the data begins with, and the entries in front, which stay.
+    pub front: usize,
+    /// The entries that are written where the directory is changed in place.
+    pub middle: usize,
+    /// The entries behind them, which stay.
+    pub back: usize,
+}
+
+impl Sizes {
+    /// How long the data is.
+    pub fn total(&self) -> usize
+        requires { self.now.front + self.now.middle + self.now.back < 2 ^ 63 }
+        ensures { result ≡ self.now.front + self.now.middle + self.now.back }
+    {
+        self.front + self.middle + self.back
+    }
+}
+
+/// The subblocks that a directory lists after an act, in order.
+#[derive(Clone, Copy)]
+pub struct Listing<'a> {
+    /// Those before the place of the act.
+    pub before: &'a [Tile],
+    /// What the act brings there.
+    pub brought: &'a [Tile],
+    /// Those behind it, where their entries move.
+    pub moved: &'a [Tile],
+    /// Those behind it, where their entries stay.
+    pub still: &'a [Tile],
+}
+
+/// What an act does with a list of subblocks.
+#[derive(Clone, Copy)]
+pub struct Parts<'a> {
+    /// Those before its place.
+    pub before: &'a [Tile],
+    /// What it brings there.
+    pub brought: &'a [Tile],
+    /// What leaves there.
+    pub leaving: &'a [Tile],
+    /// Those behind it.
+    pub behind: &'a [Tile],
+}
+
+/// How many bytes the entries of these subblocks have.
+pub fn entries_len(tiles: &[Tile]) -> usize
+    requires { length tiles.now ≤ 2 ^ 20 }
+    ensures len { result ≡ sum (map entry_len (entries_of tiles.now)) }
+    ensures bound { result ≤ 832 * length tiles.now }
+{
+    let mut len = 0;
+    for tile in tiles {
+        len += entry_len(&tile.info);
+    }
+    len
+}
+
+/// How many bytes the entries before a place have, where all have so many, and those from the place on so many.
+fn len_before(tiles: &[Tile], total: usize, from: usize, rest: usize) -> usize
+    requires total { total ≡ sum (map entry_len (entries_of tiles.now)) }
+    requires rest { rest ≡ sum (map entry_len (entries_of (drop from tiles.now))) }
+    ensures len { result ≡ sum (map entry_len (entries_of (take from tiles.now))) }
+    ensures others { result + rest ≡ total }
+{
+    total - rest
+}
+
+/// How long the parts are once those from one place up to another leave, and entries of so many bytes come there.
+pub fn sizes_after(tiles: &[Tile], total: usize, from: usize, to: usize, brought: usize) -> Sizes
+    requires total { total ≡ sum (map entry_len (entries_of tiles.now)) }
+    requires most { total ≤ 832 * length tiles.now }
+    requires few { length tiles.now ≤ 2 ^ 20 }
+    requires order { from ≤ to }
+    requires inside { to ≤ length tiles.now }
+    requires small { brought ≤ 832 }
+    ensures sizes { (come : List Entry) → sum (map entry_len come) ≡ brought → AreSizes result (entries_of (take from tiles.now)) (middle_of come (entries_of (take (to - from) (drop from tiles.now))) (entries_of (drop to tiles.now))) (back_of come (entries_of (take (to - from) (drop from tiles.now))) (entries_of (drop to tiles.now))) }
+    ensures bound { result.front + result.middle + result.back ≤ 2 ^ 40 }
+{
+    let leaving = entries_len(&tiles[from..to]);
+    let behind = entries_len(&tiles[to..]);
+    let front = 128 + len_before(tiles, total, from, leaving + behind);
+    if brought == leaving {
+        Sizes {
+            front,
+            middle: brought,
+            back: behind,
+        }
+    } else {
+        Sizes {
+            front,
+            middle: brought + behind,
+            back: 0,
+        }
+    }
+}
+
+/// The parts of an act on a list of subblocks.
+pub fn parts_of<'a>(act: &'a Act<Tile>, tiles: &'a [Tile]) -> Parts<'a>
+    requires { AreWithin (act.now ∷ []) (length tiles.now) }
+    ensures before { result.before.now ≡ tiles_before act.now tiles.now }
+    ensures brought { result.brought.now ≡ tiles_brought act.now }
+    ensures leaving { result.leaving.now ≡ tiles_leaving act.now tiles.now }
+    ensures behind { result.behind.now ≡ tiles_behind act.now tiles.now }
+{
+    let (from, to, brought) = match act {
+        Act::Out(i) => (*i, *i + 1, &tiles[..0]),
+        Act::Put(i, tile) => (*i, *i + 1, slice::from_ref(tile)),
+        Act::Into(i, tile) => (*i, *i, slice::from_ref(tile)),
+    };
+    Parts {
+        before: &tiles[..from],
+        brought,
+        leaving: &tiles[from..to],
+        behind: &tiles[to..],
+    }
+}
+
+/// What a directory lists after an act with these parts: what is behind moves, unless as many bytes of entries come as
+/// leave.
+pub fn listing_of<'a>(parts: &Parts<'a>) -> Listing<'a>
+    requires brought { length parts.now.brought.now ≤ 1 }
+    requires leaving { length parts.now.leaving.now ≤ 1 }
+    ensures front { listed_front result ≡ entries_of parts.now.before.now }
+    ensures middle { listed_middle result ≡ middle_of (entries_of parts.now.brought.now) (entries_of parts.now.leaving.now) (entries_of parts.now.behind.now) }
+    ensures back { listed_back result ≡ back_of (entries_of parts.now.brought.now) (entries_of parts.now.leaving.now) (entries_of parts.now.behind.now) }
+{
+    let stay = entries_len(parts.brought) == entries_len(parts.leaving);
+    let (moved, still) = if stay {
+        (&parts.behind[..0], parts.behind)
+    } else {
+        (parts.behind, &parts.behind[..0])
+    };
+    Listing {
+        before: parts.before,
+        brought: parts.brought,
+        moved,
+        still,
+    }
+}
