@@ -17,7 +17,7 @@ use Rattle.czi_rig.specs.declared.file.File.TheVariants.{Image, Journal}
 use Rattle.czi_rig.specs.Disk.{Disk, Left, Everywhere, IsAtRest, at_rest}
 use Rattle.czi_rig.specs.State.{State, known, seen_of}
 use Rattle.czi_rig.specs.Passes.{GoesOn}
-use Rattle.czi_rig.specs.Moments.{Devices, devices, all_of, LeavesNow, CountsNow}
+use Rattle.czi_rig.specs.Moments.{Devices, devices, all_of, LeavesNow, CountsNow, FromSomeMoment}
 use Rattle.czi_rig.proofs.Files.{left_settled}
 use Rattle.czi_rig.proofs.Known.{known_file, known_said, known_seen, leaves_now, told_before}
 use Rattle.czi_image.specs.declared.index.Index.{Index}
@@ -27,7 +27,7 @@ use Rattle.czi_vault.specs.Recovered.{Recovered}
 use Rattle.czi_spans.specs.Apart.{AreApart}
 use Rattle.czi_opening.specs.declared.opening.Opened.{Opened}
 use Rattle.czi_opening.specs.Answers.{AreRecovered, IsJournal}
-use Rattle.czi_opening.specs.Course.{From, Stays, StandsForItself}
+use Rattle.czi_opening.specs.Course.{Stays, StandsForItself}
 use Rattle.czi_machine.proofs.Leaving.{among_themselves}
 use Rattle.czi_machine.proofs.Tiled.{All-weaken, aligned_is}
 use Rattle.std.specs.Prelude.{IsTrue}
@@ -52,7 +52,7 @@ module _ {D : Type 0} (rig : Ghosts D) where
   pub itself : (old new : D) → CountsNow rig → ((r : D) (f : File) → ForSome (known (rig.state r) f) (λ disk. Left disk.durable disk.seen))
       → GoesOn (rig.state old) (rig.state new) → (rig.state new).said ≡ (rig.state old).said
       → ForSome (seen_of (rig.state old) Image) (λ image. ForSome (seen_of (rig.state old) Journal) (λ journal. AreRecovered image journal (rig.state new)))
-      → ForSome (devices (rig.state old)) (λ all. From rig old new (Stays all))
+      → ForSome (devices (rig.state old)) (λ all. FromSomeMoment rig old new (Stays all))
       → ForSome (devices (rig.state new)) (λ all. Recovered all.image.seen all.journal.seen all.image.seen)
   itself old new counts reads goes said recovered moments = λ now is.
       let of_image = told_before (rig.state old) (rig.state new) Image now.image goes (known_file (rig.state new) Image now is) in

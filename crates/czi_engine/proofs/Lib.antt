@@ -11,5 +11,5 @@ pub mod Going
 pub mod OnRig
 pub mod Oldest
 pub mod Apart
-pub mod Removed
+pub mod Planned
 pub mod Same

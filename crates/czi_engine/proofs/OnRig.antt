@@ -8,7 +8,7 @@ use Rattle.czi_commit.specs.Filled.{AreFree, filled}
 use Rattle.czi_format.specs.Live.{Live}
 use Rattle.czi_image.specs.Applied.{IsChanged, IsSame}
 use Rattle.czi_image.specs.declared.index.Index.{Index}
-use Rattle.czi_machine.specs.Edit.{Refusal, no_key, full}
+use Rattle.czi_machine.specs.Edit.{Refusal, too_long, no_key, duplicate, too_many, full}
 use Rattle.czi_machine.specs.Machine.{one_more}
 use Rattle.czi_machine.specs.State.{State as MachineState}
 use Rattle.czi_machine.specs.Turn.{turned}
@@ -42,7 +42,7 @@ use Rattle.czi_engine.specs.Standing.{AreWhole, HasItsMap, HasSome, HasState, Is
 use Rattle.czi_engine.specs.declared.engine.Engine.{Engine}
 use Rattle.czi_engine.specs.declared.engine.EngineState.{EngineState}
 use Rattle.czi_engine.specs.declared.error.EditError.{EditError}
-use Rattle.czi_engine.specs.declared.error.EditError.TheVariants.{NoKey, Full, Memory, ImageDevice, JournalDevice}
+use Rattle.czi_engine.specs.declared.error.EditError.TheVariants.{TooLong, NoKey, Duplicate, TooMany, Full, Memory, ImageDevice, JournalDevice}
 use Rattle.czi_engine.proofs.Going.{has_next, high, kept_next, leaves_100, made_by, stands_next, touches, turn, writes_free}
 use Rattle.czi_engine.proofs.Keeping.{rests_stands, during_edit, one_alike}
 use Rattle.czi_engine.proofs.Same.{same_has}
@@ -154,7 +154,10 @@ next_whole x y held own all is = (
 
 -- an error of a device is no refusal
 device_refuses : (go : Goes) (s : MachineState) (error : EditError) → IsTrue (is_device error) → Refuses go s error
+device_refuses go s (TooLong n limit) is = absurd (true≢false (sym is))
 device_refuses go s NoKey is = absurd (true≢false (sym is))
+device_refuses go s (Duplicate place) is = absurd (true≢false (sym is))
+device_refuses go s (TooMany count) is = absurd (true≢false (sym is))
 device_refuses go s (Full need n) is = absurd (true≢false (sym is))
 device_refuses go s Memory is = absurd (true≢false (sym is))
 device_refuses go s ImageDevice is = tt
@@ -162,7 +165,10 @@ device_refuses go s JournalDevice is = tt
 
 -- and a refusal leaves no doubt
 refused_is : (go : Goes) (s : MachineState) (error : EditError) (refusal : Refusal) → IsFalse (is_device error) → Refuses go s error → go s ≡ Err refusal → (refusal_of error ≡ Some refusal) ⊎ (error ≡ Memory)
+refused_is go s (TooLong n limit) refusal off refuses goes = inl (let same : too_long n limit ≡ refusal = cc (refuses, goes) in ap Some same)
 refused_is go s NoKey refusal off refuses goes = inl (let same : no_key ≡ refusal = cc (refuses, goes) in ap Some same)
+refused_is go s (Duplicate place) refusal off refuses goes = inl (let same : duplicate place ≡ refusal = cc (refuses, goes) in ap Some same)
+refused_is go s (TooMany count) refusal off refuses goes = inl (let same : too_many count ≡ refusal = cc (refuses, goes) in ap Some same)
 refused_is go s (Full need n) refusal off refuses goes = inl (let same : full need n ≡ refusal = cc (refuses, goes) in ap Some same)
 refused_is go s Memory refusal off refuses goes = inr refl
 refused_is go s ImageDevice refusal off refuses goes = absurd (true≢false off)
@@ -172,7 +178,10 @@ no_fault : (s : State) → Faults None s s
 no_fault s = record { image_count = refl; journal_count = refl; output_count = refl }
 
 no_cause : (s : State) (error : EditError) → IsFalse (is_device error) → Faults (edit_device error) s s
+no_cause s (TooLong n limit) off = no_fault s
 no_cause s NoKey off = no_fault s
+no_cause s (Duplicate place) off = no_fault s
+no_cause s (TooMany count) off = no_fault s
 no_cause s (Full need n) off = no_fault s
 no_cause s Memory off = no_fault s
 no_cause s ImageDevice off = absurd (true≢false off)

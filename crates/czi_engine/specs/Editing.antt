@@ -5,7 +5,7 @@ use Rattle.czi_format.specs.Document.{Document}
 use Rattle.czi_format.specs.Layout.{Layout, HasLayout}
 use Rattle.czi_format.specs.Live.{Live}
 use Rattle.czi_image.specs.Applied.{IsSame}
-use Rattle.czi_machine.specs.Edit.{Edit, Refusal, no_key, full}
+use Rattle.czi_machine.specs.Edit.{Edit, Refusal, too_long, no_key, duplicate, too_many, full}
 use Rattle.czi_machine.specs.Headline.{NoWriteTouches}
 use Rattle.czi_machine.specs.Machine.{after_edit, one_more}
 use Rattle.czi_machine.specs.State.{State as MachineState}
@@ -23,7 +23,7 @@ use Rattle.czi_engine.specs.Standing.{HasState, KeepsItems, Origin, origin_in}
 use Rattle.czi_engine.specs.Devices.{edit_device}
 use Rattle.czi_engine.specs.declared.engine.EngineState.{EngineState}
 use Rattle.czi_engine.specs.declared.error.EditError.{EditError}
-use Rattle.czi_engine.specs.declared.error.EditError.TheVariants.{NoKey, Full, Memory, ImageDevice, JournalDevice}
+use Rattle.czi_engine.specs.declared.error.EditError.TheVariants.{TooLong, NoKey, Duplicate, TooMany, Full, Memory, ImageDevice, JournalDevice}
 
 -- what a command makes of a state, or why it is refused
 abbrev pub Goes : Type 0
@@ -78,7 +78,10 @@ pub record Accepts (go : Goes) (o : Origin) (s : MachineState) (rig : State) (x 
 
 -- what the machine refuses; the other errors tell nothing of it
 abbrev pub refusal_of : EditError → Option Refusal
+refusal_of (TooLong len limit) = Some (too_long len limit)
 refusal_of NoKey = Some no_key
+refusal_of (Duplicate place) = Some (duplicate place)
+refusal_of (TooMany count) = Some (too_many count)
 refusal_of (Full need length) = Some (full need length)
 refusal_of Memory = None
 refusal_of ImageDevice = None

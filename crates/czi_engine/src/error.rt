@@ -11,9 +11,23 @@ use thiserror::Error;
 /// Why an edit isn't done, in the order in which the causes are looked for.
 #[derive(Clone, Copy, Debug, PartialEq, Eq, Error)]
 pub enum EditError {
+    /// A piece of what the edit brings is past its limit. It is the first one, in the order of the parameters.
+    #[error("a piece of {len} bytes, where the limit is {limit}")]
+    TooLong {
+        /// How many bytes the piece has.
+        len: u64,
+        /// How many it may have.
+        limit: u64,
+    },
     /// No item has the key.
     #[error("no item has the key")]
     NoKey,
+    /// An item has the key already: the one at this place of its list, counted from 0.
+    #[error("the item at {0} has the key already")]
+    Duplicate(u64),
+    /// The list has this many items, and may not have more.
+    #[error("{0} items, and no room for more")]
+    TooMany(u64),
     /// A new segment has no place: past the length it would end above 2^40.
     #[error("no place for {need} bytes, at a length of {length}")]
     Full {

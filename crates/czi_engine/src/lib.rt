@@ -9,8 +9,10 @@ mod carrying;
 mod editing;
 mod engine;
 mod error;
+mod limits;
 mod opening;
-mod removing;
+mod preparing;
+mod subblocks;
 
 pub use czi_opening::{ImageRefusal, OpenError};
 pub use engine::Engine;

@@ -7,12 +7,12 @@ ghost use Rattle.czi_links.specs.Reading.{Void};
 ghost use Rattle.czi_num.specs.Span.{span_of};
 ghost use Rattle.czi_opening.specs.Answers.{AreRecovered, Tells};
 ghost use Rattle.czi_opening.specs.Devices.{open_device};
-ghost use Rattle.czi_opening.specs.Course.{From, OpensFrom, Stays};
+ghost use Rattle.czi_opening.specs.Course.{OpensFrom, Stays};
 ghost use Rattle.czi_rig.specs.Disk.{Everywhere, IsAtRest, Left};
 ghost use Rattle.czi_rig.specs.State.{LeavesOther, known, seen_of};
 ghost use Rattle.czi_rig.specs.Passes.{GoesOn};
 ghost use Rattle.czi_rig.specs.Faults.{Faults, device_of, failed_at, fault_at};
-ghost use Rattle.czi_rig.specs.Moments.{devices, Throughout};
+ghost use Rattle.czi_rig.specs.Moments.{devices, Throughout, FromSomeMoment};
 ghost use Rattle.czi_rig.specs.Quiet.{Untouched};
 ghost use Rattle.czi_space.specs.State.{Has};
 ghost use Rattle.czi_vault.specs.Recovered.{Recovered};
@@ -59,7 +59,7 @@ impl Engine {
         ensures refused { IfErr result (λ error. ForSome (seen_of (R.state rig.old) File.Image) (λ image. ForSome (seen_of (R.state rig.old) File.Journal) (λ journal.
             Tells image journal (R.state rig.new) error))) }
         // Until both files are synced nothing is left that the start couldn't leave. From then on each pair stands for what the start did.
-        ensures moments { OnOk result (ForSome (devices (R.state rig.old)) (λ all. From R.Rig rig.old rig.new (Stays all))) }
+        ensures moments { OnOk result (ForSome (devices (R.state rig.old)) (λ all. FromSomeMoment R.Rig rig.old rig.new (Stays all))) }
         ensures meanwhile { IfErr result (λ error. ForSome (devices (R.state rig.old)) (λ all. OpensFrom R.Rig rig.old rig.new (Stays all) (Err error))) }
         ensures journal { seen_of (R.state rig.new) File.Journal ≡ seen_of (R.state rig.old) File.Journal }
         ensures said { (R.state rig.new).said ≡ (R.state rig.old).said }
@@ -115,7 +115,7 @@ impl Engine {
         ensures number { self.new.state.number ≡ self.old.state.number }
         ensures refused { IfErr result (λ error. ForSome (seen_of (R.state rig.old) File.Image) (λ image. ForSome (seen_of (R.state rig.old) File.Journal) (λ journal.
             Tells image journal (R.state rig.new) error))) }
-        ensures moments { OnOk result (ForSome (devices (R.state rig.old)) (λ all. From R.Rig rig.old rig.new (Stays all))) }
+        ensures moments { OnOk result (ForSome (devices (R.state rig.old)) (λ all. FromSomeMoment R.Rig rig.old rig.new (Stays all))) }
         ensures meanwhile { IfErr result (λ error. ForSome (devices (R.state rig.old)) (λ all. OpensFrom R.Rig rig.old rig.new (Stays all) (Err error))) }
         ensures said { (R.state rig.new).said ≡ (R.state rig.old).said }
         ensures goes_on { GoesOn (R.state rig.old) (R.state rig.new) }

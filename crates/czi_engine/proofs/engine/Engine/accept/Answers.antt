@@ -22,6 +22,7 @@ apply-requires-clause-room c =
     let few = few_extents x.state.map.length (used_of p) (freed_of p) x.state.map.extents (map_rises x.state c.requires.own_map) c.requires.plan.takes in
     subst (λ (change : Change). HasRoom change (length c.extents.result.now) x.state.index) (sym c.replace-change.ensures.value) (record {
       tiles = h.tiles;
+      numbers = h.numbers;
       attachments = h.attachments;
       extents = omega (
         arith,
