@@ -1,51 +1,32 @@
 -- What stands next in a script, where only so many bytes may be looked at, is one thing.
-use Rattle.std.proofs.Common.{◌≡◌, ℕ, suc, ◌+◌, ◌-◌, ◌<◌, ◌≤◌, List, [], ◌∷◌, ◌++◌, take, drop, length, refl, ap, sym, ◌∙◌, subst, arith, inl, inr, append-nil, append_assoc, length-append, length-take, take-append-drop, min}
+use Rattle.std.proofs.Common.{◌≡◌, ℕ, zero, suc, ◌+◌, ◌-◌, ◌<◌, ◌≤◌, List, [], ◌∷◌, ◌++◌, take, drop, length, refl, ap, sym, ◌∙◌, subst, arith, inl, inr, append-nil, append_assoc, length-append, length-take, take-append-drop, min}
 use Rattle.std.specs.Prelude.{◌≢◌}
 use Rattle.std.proofs.Math.Seq.{take-append-add}
 use Rattle.czi_script.specs.declared.kind.Kind.{Kind}
-use Rattle.czi_script.specs.declared.kind.Kind.TheVariants.{Cut, Long}
-use Rattle.czi_script.specs.Script.{Command, HasNo, FirstLine, IsFault, Found, Next, Ended, Wrong, Beyond, Shows, Finds}
-use Rattle.czi_script.proofs.Shown.{fault_of_wrong}
-use Rattle.czi_script.proofs.Grammar.{line_free, LineIs, line_is}
-use Rattle.czi_script.proofs.Faults.{less_or, no_cons, SameSpelling, spelled_once, spelled_some, spelled_len, parted, Shape, shape, fault_some, cut_not_line, one_kind, fault_stuck, first_longer, fault_stays, Begins, Whole, Far, Short, begins, begun, shown_fault}
+use Rattle.czi_script.specs.declared.kind.Kind.TheVariants.{Cut, Long, Word, Later, Field, Value, Tail}
+use Rattle.czi_script.specs.Script.{Command, IsFault, Found, Next, Ended, Wrong, Beyond, Shows, Finds}
+use Rattle.czi_script.proofs.Grammar.{less_or}
+use Rattle.czi_script.proofs.Faults.{no_cons, SameSpelling, spelled_once, spelled_some, fault_some, fault_some_bytes, one_kind, fault_stuck, fault_stays, not_always_cut, Begun, begun, shown_fault}
 
--- the bytes before the limit are no whole line
+-- the bytes before the limit are no fault that shows
 not_beyond : (room : ℕ) (kind : Kind) (bytes : List ℕ) → Shows room kind bytes → Finds room bytes Beyond → ⊥
 not_beyond room kind bytes shows f = elim shows [
   | inl here ↦ omega (arith, here.0, f.0)
-  | inr every ↦ cut_only (shape kind (take room bytes ++ []) (every [])) (every (10 ∷ []))
+  | inr every ↦
+      let here : IsFault kind (take room bytes) = subst (IsFault kind) (append-nil (take room bytes)) (every []) in
+      let cut : kind ≡ Cut = one_kind kind Cut (take room bytes) here (fault_some_bytes kind (take room bytes) here, f.1) in
+      not_always_cut (take room bytes) f.1 (λ more. subst (λ k. IsFault k (take room bytes ++ more)) cut (every more))
 ]
-  where
-    size : length (take room bytes) ≡ room
-    size = let n : length (take room bytes) ≡ min room (length bytes) = length-take room bytes in omega (arith, n, f.0)
-
-    fed : FirstLine (take room bytes) (take room bytes ++ 10 ∷ [])
-    fed = record { more = []; whole = refl; free = f.1; short = omega (arith, size, f.2) }
-
-    whole_free : HasNo 10 (take room bytes ++ [])
-    whole_free = subst (HasNo 10) (sym (append-nil (take room bytes))) f.1
-
-    cut_only : Shape kind (take room bytes ++ []) → IsFault kind (take room bytes ++ 10 ∷ []) → ⊥
-    cut_only s g = elim s [
-      | inl x ↦ cut_not_line _ _ fed (subst (λ k. IsFault k (take room bytes ++ 10 ∷ [])) x.0 g).1
-      | inr o ↦ elim o [
-        | inl x ↦ omega (arith, x.1, f.2, size, ap length (append-nil (take room bytes)))
-        | inr x ↦ cut_not_line x.0 _ x.1 whole_free
-      ]
-    ]
 
 -- a spelling before the limit
 next_beyond : (room : ℕ) (c : Command) (bytes : List ℕ) → Finds room bytes (Next c) → Finds room bytes Beyond → ⊥
-next_beyond room c bytes x f = cut_not_line x.3.line (take room bytes) (record { more = take (room - length x.0) x.1; whole = parted x.3.line _ (take room bytes) x.0 front x.3.whole; free = line_free c x.3.line x.3.is_line; short = short }) f.1
+next_beyond room c bytes x f = fault_stuck Cut (take room bytes) ((λ none. spelled_some c x.0 (take (room - length x.0) x.1) x.3 (sym front ∙ none)), f.1) c x.0 (take (room - length x.0) x.1) x.3 front
   where
     parts : room ≡ length x.0 + (room - length x.0)
     parts = omega (arith, x.4)
 
     front : take room bytes ≡ x.0 ++ take (room - length x.0) x.1
     front = ap (take room) x.2 ∙ ap (λ n. take n (x.0 ++ x.1)) parts ∙ take-append-add x.0 x.1 (room - length x.0)
-
-    short : length x.3.line < 4096
-    short = let n : length x.0 ≡ length x.3.line + 1 = spelled_len c x.0 x.3 in omega (arith, n, x.3.short)
 
 ended_beyond : (room : ℕ) (bytes : List ℕ) → bytes ≡ [] → Finds room bytes Beyond → ⊥
 ended_beyond room bytes e f = let n : length bytes ≡ 0 = ap length e in omega (arith, n, f.0)
@@ -88,38 +69,43 @@ found_within room bytes some le = elim (begun bytes some) [
   | inr x ↦ (Wrong x.0, inl (le, x.1))
 ]
 
-line_found : (room : ℕ) (bytes line : List ℕ) → FirstLine line (take room bytes) → LineIs line → SomeFound room bytes
-line_found room bytes line f is = elim is [
-  | inl c ↦ (Next c.0, (line ++ 10 ∷ [], f.more ++ drop room bytes, whole, record { line = line; whole = refl; is_line = c.1; short = omega (arith, long, f.short) }, omega (arith, long, size, fits)))
-  | inr w ↦ (Wrong w.0, inr (λ more. fault_of_wrong w.0 line (take room bytes ++ more) (first_longer line (take room bytes) more f) w.1))
-]
+-- where not all of them may be taken
+found_begun : (room : ℕ) (bytes : List ℕ) → room < length bytes → Begun (take room bytes) → SomeFound room bytes
+found_begun room bytes lt (inl x) = (
+  Next x.0,
+  (
+    x.1,
+    x.2 ++ drop room bytes,
+    sym (take-append-drop room bytes) ∙ ap (λ l. l ++ drop room bytes) x.3 ∙ append_assoc x.1 x.2 (drop room bytes),
+    x.4,
+    let a : length (take room bytes) ≡ length (x.1 ++ x.2) = ap length x.3 in
+        let b : length (x.1 ++ x.2) ≡ length x.1 + length x.2 = length-append x.1 x.2 in
+        let n : length (take room bytes) ≡ min room (length bytes) = length-take room bytes in
+        omega (arith, a, b, n),
+  ),
+)
+found_begun room bytes lt (inr x) = by x.0 x.1
   where
-    long : length (line ++ 10 ∷ []) ≡ length line + 1
-    long = length-append line (10 ∷ [])
+    stays : (kind : Kind) → kind ≢ Cut → IsFault kind (take room bytes) → SomeFound room bytes
+    stays kind other f = (Wrong kind, inr (λ more. fault_stays kind (take room bytes) more other f))
 
-    size : length (take room bytes) ≡ min room (length bytes)
-    size = length-take room bytes
+    by : (kind : Kind) → IsFault kind (take room bytes) → SomeFound room bytes
+    by Cut f = (Beyond, (lt, f.1))
+    by Long f = stays Long (λ e. let n : Long ≡ Cut = e in cc) f
+    by Word f = stays Word (λ e. let n : Word ≡ Cut = e in cc) f
+    by Later f = stays Later (λ e. let n : Later ≡ Cut = e in cc) f
+    by Field f = stays Field (λ e. let n : Field ≡ Cut = e in cc) f
+    by Value f = stays Value (λ e. let n : Value ≡ Cut = e in cc) f
+    by Tail f = stays Tail (λ e. let n : Tail ≡ Cut = e in cc) f
 
-    fits : length (take room bytes) ≡ length line + suc (length f.more)
-    fits = ap length f.whole ∙ length-append line (10 ∷ f.more)
-
-    whole : bytes ≡ (line ++ 10 ∷ []) ++ (f.more ++ drop room bytes)
-    whole = sym (take-append-drop room bytes) ∙ ap (λ l. l ++ drop room bytes) (f.whole ∙ sym (append_assoc line (10 ∷ []) f.more)) ∙ append_assoc (line ++ 10 ∷ []) f.more (drop room bytes)
-
-far_found : (room : ℕ) (bytes : List ℕ) → 4096 ≤ length (take room bytes) → HasNo 10 (take 4096 (take room bytes)) → SomeFound room bytes
-far_found room bytes far free = (Wrong Long, inr (λ more. fault_stays Long (take room bytes) more (λ e. apart e) (far, free)))
-  where
-    apart : Long ≡ Cut → ⊥
-    apart e = cc
-
-found_front : (room : ℕ) (bytes : List ℕ) → room < length bytes → Begins (take room bytes) → SomeFound room bytes
-found_front room bytes lt (Whole line f) = line_found room bytes line f (line_is line)
-found_front room bytes lt (Far far free) = far_found room bytes far free
-found_front room bytes lt (Short short free) = (Beyond, (lt, free, let n : length (take room bytes) ≡ min room (length bytes) = length-take room bytes in omega (arith, n, short, lt)))
+found_front : (room : ℕ) (bytes : List ℕ) → room < length bytes → SomeFound room bytes
+found_front zero bytes lt = (Beyond, (lt, inl (tt, omega arith)))
+found_front (suc room) [] lt = absurd (omega arith)
+found_front (suc room) (b ∷ bytes) lt = found_begun (suc room) (b ∷ bytes) lt (begun (b ∷ take room bytes) (λ e. no_cons b (take room bytes) e))
 
 found_some : (room : ℕ) (bytes : List ℕ) → bytes ≢ [] → SomeFound room bytes
 found_some room bytes some = elim (less_or room (length bytes)) [
-  | inl lt ↦ found_front room bytes lt (begins (take room bytes))
+  | inl lt ↦ found_front room bytes lt
   | inr le ↦ found_within room bytes some le
 ]
 

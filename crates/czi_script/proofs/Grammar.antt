@@ -1,164 +1,119 @@
--- Lines and spellings: each line is a command or wrong in one way, and no spelling begins another.
-use Rattle.std.proofs.Common.{◌≡◌, ℕ, zero, suc, List, [], ◌∷◌, ◌++◌, take, drop, length, Bool, true, false, ◌||◌, ◌⊎◌, Result, Ok, Err, refl, ap, sym, ◌∙◌, subst, arith, inl, inr, take-append-drop, if◌then◌else◌}
-use Rattle.std.specs.Prelude.{codes, bytes_eq, nat_lt}
+-- Lines: each says one thing, or is wrong in one way.
+use Rattle.std.proofs.Common.{◌≡◌, ℕ, suc, ◌+◌, ◌<◌, ◌≤◌, ℤ, pos, List, [], ◌∷◌, length, Bool, true, false, ◌||◌, ◌⊎◌, Option, Some, None, Result, Ok, Err, refl, ap, sym, ◌∙◌, subst, arith, inl, inr, append-nil, if◌then◌else◌}
+use Rattle.std.specs.Prelude.{codes, bytes_eq, nat_lt, is_some, get_or, replicate, ◌^◌}
+use Rattle.std.specs.Str.Parse.{digits_value}
 use Rattle.std.proofs.lemmas.Bool.{cases_Bool}
 use Rattle.std.proofs.lemmas.Bool.Decides.{nat_tests}
-use Rattle.std.proofs.lemmas.Slice.Eq.{bytes_eq-Decides}
-use Rattle.czi_format.specs.Entry.{Dim}
-use Rattle.czi_doc.specs.DimText.{IsDimText}
-use Rattle.czi_doc.specs.Reading.{items_at}
-use Rattle.czi_doc.proofs.Rails.{Spot, fresh, name, due, sign, lone, digits, dead, arrow, run, final, run_dead, items_run}
+use Rattle.czi_format.specs.Partial.{◌>>=◌}
+use Rattle.czi_format.specs.Entry.{Dim, EntryInfo}
+use Rattle.czi_doc.specs.DimText.{IsDimText, IsNatural}
+use Rattle.czi_doc.specs.Reading.{Read, items_at, number_at}
 use Rattle.czi_doc.proofs.Spelled.{found}
-use Rattle.czi_doc.proofs.ReadAgain.{only, only_fault}
+use Rattle.czi_doc.proofs.ReadAgain.{only, only_fault, number_again}
+use Rattle.czi_doc.proofs.Numbers.{natural_or, number_or, same_natural}
 use Rattle.czi_script.specs.declared.kind.Kind.{Kind}
 use Rattle.czi_script.specs.declared.kind.Kind.TheVariants.{Cut, Long, Word, Later, Field, Value, Tail}
-use Rattle.czi_script.specs.Script.{Command, Remove, Listing, Info, Map, Check, HasNo, IsLine, len_before, word, bare_words, built_words, later_words, is_among, HasFields, IsWrong}
-use Rattle.czi_script.proofs.Bytes.{free_append, all_free, not_free}
-use Rattle.czi_script.proofs.LineKinds.{no_truth, each_word, remove_value, fields_built}
+use Rattle.czi_script.specs.Script.{Add, Replace, Remove, Listing, Info, Map, Check, Past, Verb, Adds, Replaces, Head, Alone, Tile, word, lines, later_words, is_among, fields_for, values_at, behind_word, values_of, IsSigned, IsTile, tile_word, head_word, AreValues, IsHead, IsWrong, is_built, has_fields}
+use Rattle.czi_script.proofs.Words.{no_truth, each_line, built_not_later}
 
--- a dimension text has no line feed and no space
+pub less_or : (a b : ℕ) → (a < b) ⊎ (b ≤ a)
+less_or a b = elim (cases_Bool (nat_lt a b)) [
+  | inl t ↦ inl (grind (arith, nat_tests))
+  | inr t ↦ inr (grind (arith, nat_tests))
+]
 
-no_feed : (s : Spot) → arrow s 10 ≡ dead
-no_feed (fresh n) = refl
-no_feed (name n zero) = refl
-no_feed (name n (suc m)) = refl
-no_feed (due n p) = refl
-no_feed (sign n p) = refl
-no_feed (lone n zero) = refl
-no_feed (lone n (suc p)) = refl
-no_feed (digits n zero) = refl
-no_feed (digits n (suc p)) = refl
-no_feed dead = refl
+-- the values, by their texts
 
-no_space : (s : Spot) → arrow s 32 ≡ dead
-no_space (fresh n) = refl
-no_space (name n zero) = refl
-no_space (name n (suc m)) = refl
-no_space (due n p) = refl
-no_space (sign n p) = refl
-no_space (lone n zero) = refl
-no_space (lone n (suc p)) = refl
-no_space (digits n zero) = refl
-no_space (digits n (suc p)) = refl
-no_space dead = refl
+abbrev the_number : Result (Read ℤ) ℕ → ℤ
+the_number (Ok r) = r.it
+the_number (Err left) = pos 0
 
-free_run : (b : ℕ) → ((s : Spot) → arrow s b ≡ dead) → (s : Spot) (text : List ℕ) → final (run s text) ≡ true → HasNo b text
-free_run b none s [] is = tt
-free_run b none s (c ∷ text) is = (λ e. no_truth (sym is ∙ ap final (ap (λ t. run t text) (ap (arrow s) e ∙ none s) ∙ run_dead text)), free_run b none (arrow s c) text is)
-
-text_free : (b : ℕ) → ((s : Spot) → arrow s b ≡ dead) → (text : List ℕ) (dims : List Dim) → IsDimText text dims → HasNo b text
-text_free b none text dims is = free_run b none (fresh 39) text (items_run 39 text dims is.items (omega (arith, is.few)))
-
--- a line spells one command, and has no line feed
-
-pub line_free : (c : Command) (line : List ℕ) → IsLine c line → HasNo 10 line
-line_free (Remove dims) line is = subst (HasNo 10) (sym is.1) (free_append 10 (codes "remove dims=") is.0 (all_free 10 (codes "remove dims=") (omega arith)) (text_free 10 no_feed is.0 dims is.2))
-line_free Listing line is = subst (HasNo 10) (sym is) (all_free 10 (codes "list") (omega arith))
-line_free Info line is = subst (HasNo 10) (sym is) (all_free 10 (codes "info") (omega arith))
-line_free Map line is = subst (HasNo 10) (sym is) (all_free 10 (codes "map") (omega arith))
-line_free Check line is = subst (HasNo 10) (sym is) (all_free 10 (codes "check") (omega arith))
-
-line_fields : (c : Command) (line : List ℕ) → IsLine c line → HasFields line
-line_fields (Remove dims) line is = inl (is.0, is.1, text_free 32 no_space is.0 dims is.2)
-line_fields Listing line is = inr (ap (is_among bare_words) is)
-line_fields Info line is = inr (ap (is_among bare_words) is)
-line_fields Map line is = inr (ap (is_among bare_words) is)
-line_fields Check line is = inr (ap (is_among bare_words) is)
-
--- the command that a line may spell
 abbrev the_dims : Result (List Dim) ℕ → List Dim
 the_dims (Ok dims) = dims
 the_dims (Err left) = []
 
-abbrev command_at : List ℕ → Command
-command_at line =
-    if bytes_eq line (codes "list") then Listing
-    else if bytes_eq line (codes "info") then Info
-    else if bytes_eq line (codes "map") then Map
-    else if bytes_eq line (codes "check") then Check
-    else Remove (the_dims (items_at 40 (drop 12 line)))
+number_is : (text : List ℕ) (n : ℤ) → IsSigned text n → the_number (number_at text) ≡ n
+number_is text n is = ap (λ l. the_number (number_at l)) (sym (append-nil text)) ∙ ap the_number (number_again text [] n is.0 is.1 refl)
 
-command_is : (c : Command) (line : List ℕ) → IsLine c line → command_at line ≡ c
-command_is (Remove dims) line is = ap command_at is.1 ∙ ap (λ (r : Result (List Dim) ℕ). Remove (the_dims r)) (only 40 is.0 dims is.2.items is.2.few is.2.fits)
-command_is Listing line is = ap command_at is
-command_is Info line is = ap command_at is
-command_is Map line is = ap command_at is
-command_is Check line is = ap command_at is
+dims_is : (text : List ℕ) (dims : List Dim) → IsDimText text dims → the_dims (items_at 40 text) ≡ dims
+dims_is text dims is = ap the_dims (only 40 text dims is.items is.few is.fits)
 
-pub one_command : (c d : Command) (line : List ℕ) → IsLine c line → IsLine d line → c ≡ d
-one_command c d line p q = sym (command_is c line p) ∙ command_is d line q
+abbrev nth : ℕ → List (List ℕ) → List ℕ
+nth n values = get_or values n []
 
--- the words that are built and the others are apart
-built_not_later : (w : List ℕ) → is_among built_words w ≡ true → is_among later_words w ≡ false
-built_not_later w e = each_word (λ x. is_among later_words x ≡ false) built_words (refl, (refl, (refl, (refl, (refl, tt))))) w e
+abbrev tile_at : Verb → List (List ℕ) → Head
+tile_at verb values = Tile verb (record {
+  pixel = the_number (number_at (nth 0 values));
+  compression = the_number (number_at (nth 1 values));
+  pyramid = digits_value 10 (nth 2 values);
+  spare = replicate 5 0;
+  dims = the_dims (items_at 40 (nth 3 values));
+}) (digits_value 10 (nth 4 values)) (digits_value 10 (nth 5 values)) (digits_value 10 (nth 6 values))
 
--- whether the fields are right
-
-abbrev pub is_spaced : List ℕ → Bool
-is_spaced value = nat_lt (len_before 32 value) (length value)
-
-abbrev pub has_dims : List ℕ → Bool
-has_dims line = if bytes_eq (take 12 line) (codes "remove dims=") then (if is_spaced (drop 12 line) then false else true) else false
-
-abbrev pub has_fields : List ℕ → Bool
-has_fields line = has_dims line || is_among bare_words line
-
-value_is : (line : List ℕ) → has_dims line ≡ true → (value : List ℕ) × (line ≡ codes "remove dims=" ++ value) × HasNo 32 value
-value_is line e = elim (cases_Bool (bytes_eq (take 12 line) (codes "remove dims="))) [
-  | inl t ↦ elim (cases_Bool (is_spaced (drop 12 line))) [
-    | inl s ↦ absurd (no_truth (sym e ∙ spaced t s))
-    | inr s ↦ (drop 12 line, sym (take-append-drop 12 line) ∙ ap (λ l. l ++ drop 12 line) ((bytes_eq-Decides (take 12 line) (codes "remove dims=")).0 t), all_free 32 (drop 12 line) (grind (arith, nat_tests)))
-  ]
-  | inr t ↦ absurd (no_truth (sym e ∙ other t))
-]
+tile_is : (verb : Verb) (info : EntryInfo) (meta pixels tail : ℕ) (values : List (List ℕ)) → IsTile info meta pixels tail values → tile_at verb values ≡ Tile verb info meta pixels tail
+tile_is verb info meta pixels tail values r = ap (tile_at verb) r.texts ∙ parts (number_is r.pixel_text info.pixel r.is_pixel) (number_is r.comp_text info.compression r.is_comp) r.is_pyramid.0.value (sym r.spare) (dims_is r.dims_text info.dims r.is_dims) r.is_meta.0.value r.is_data.0.value r.is_att.0.value
   where
-    spaced : bytes_eq (take 12 line) (codes "remove dims=") ≡ true → is_spaced (drop 12 line) ≡ true → has_dims line ≡ false
-    spaced t s = rw (t, s)
+    parts : {a b : ℤ} {c : ℕ} {d : List ℕ} {e : List Dim} {f g h : ℕ} → a ≡ info.pixel → b ≡ info.compression → c ≡ info.pyramid → d ≡ info.spare → e ≡ info.dims → f ≡ meta → g ≡ pixels → h ≡ tail
+        → Tile verb (record { pixel = a; compression = b; pyramid = c; spare = d; dims = e }) f g h ≡ Tile verb info meta pixels tail
+    parts p q r s t u v w = rw (p, q, r, s, t, u, v, w)
 
-    other : bytes_eq (take 12 line) (codes "remove dims=") ≡ false → has_dims line ≡ false
-    other t = rw t
+-- what a line may say, by its word and its values
+abbrev head_at : List ℕ → List (List ℕ) → Head
+head_at w values =
+    if bytes_eq w (codes "add") then tile_at Adds values
+    else if bytes_eq w (codes "replace") then tile_at Replaces values
+    else if bytes_eq w (codes "remove") then Alone (Remove (the_dims (items_at 40 (nth 0 values))))
+    else if bytes_eq w (codes "list") then Alone Listing
+    else if bytes_eq w (codes "info") then Alone Info
+    else if bytes_eq w (codes "map") then Alone Map
+    else Alone Check
 
-value_has : (line value : List ℕ) → line ≡ codes "remove dims=" ++ value → HasNo 32 value → has_dims line ≡ true
-value_has line value e free = ap has_dims e ∙ there (elim (cases_Bool (is_spaced value)) [
-  | inl s ↦ absurd (not_free 32 value (grind (arith, nat_tests)) free)
-  | inr s ↦ s
-])
+head_is : (h : Head) (values : List (List ℕ)) → AreValues h values → head_at (head_word h) values ≡ h
+head_is (Tile Adds info meta pixels tail) values are = tile_is Adds info meta pixels tail values are
+head_is (Tile Replaces info meta pixels tail) values are = tile_is Replaces info meta pixels tail values are
+head_is (Alone (Remove dims)) values are = ap (λ vs. head_at (codes "remove") vs) are.1 ∙ ap (λ (ds : List Dim). Alone (Remove ds)) (dims_is are.0 dims are.2)
+head_is (Alone Listing) values are = refl
+head_is (Alone Info) values are = refl
+head_is (Alone Map) values are = refl
+head_is (Alone Check) values are = refl
+head_is (Alone (Add info meta pixels tail)) values are = absurd are
+head_is (Alone (Replace info meta pixels tail)) values are = absurd are
+head_is (Alone (Past len limit)) values are = absurd are
+
+pub one_head : (h k : Head) (line : List ℕ) → IsHead h line → IsHead k line → h ≡ k
+one_head h k line p q =
+    sym (head_is h p.values p.are) ∙ both (sym p.named ∙ q.named) (same (values_of line) p.values q.values p.given_so q.given_so) ∙ head_is k q.values q.are
   where
-    there : is_spaced value ≡ false → has_dims (codes "remove dims=" ++ value) ≡ true
-    there s = rw s
+    same : (o : Option (List (List ℕ))) (a b : List (List ℕ)) → o ≡ Some a → o ≡ Some b → a ≡ b
+    same o a b e f = cc
 
-fields_is : (line : List ℕ) → has_fields line ≡ true → HasFields line
-fields_is line e = elim (cases_Bool (has_dims line)) [
-  | inl d ↦ inl (value_is line d)
-  | inr none ↦ inr (sym (other none) ∙ e)
-]
-  where
-    other : has_dims line ≡ false → has_fields line ≡ is_among bare_words line
-    other none = rw none
+    both : {a b : List ℕ} {x y : List (List ℕ)} → a ≡ b → x ≡ y → head_at a x ≡ head_at b y
+    both e f = rw (e, f)
 
-fields_has : (line : List ℕ) → HasFields line → has_fields line ≡ true
-fields_has line has = elim has [
-  | inl r ↦ first (has_dims line) _ (value_has line r.0 r.1 r.2)
-  | inr bare ↦ each_word (λ x. has_fields x ≡ true) bare_words (refl, (refl, (refl, (refl, tt)))) line bare
-]
-  where
-    first : (a b : Bool) → a ≡ true → (a || b) ≡ true
-    first a b e = rw e
+-- a line says something, or is wrong
 
--- a line is a command, or wrong in one way
+bind_some : {A B : Type 0} (o : Option A) (f : A → Option B) → is_some (o >>= f) ≡ true → is_some o ≡ true
+bind_some None f e = e
+bind_some (Some x) f e = refl
 
-pub not_both : (c : Command) (kind : Kind) (line : List ℕ) → IsLine c line → IsWrong kind line → ⊥
-not_both c Cut line is w = w
-not_both c Long line is w = w
-not_both c Word line is w = no_truth (sym (fields_built line (line_fields c line is)) ∙ w.0)
-not_both c Later line is w = no_truth (sym w ∙ built_not_later (word line) (fields_built line (line_fields c line is)))
-not_both c Field line is w = w.1 (line_fields c line is)
-not_both c Value line is w = w.1 c is
-not_both c Tail line is w = w
+fields_built : (line : List ℕ) → has_fields line ≡ true → is_built line ≡ true
+fields_built line e = bind_some (fields_for lines (word line)) (λ fields. values_at fields (behind_word line)) e
 
--- the kind of a line that is no command
+head_fields : (h : Head) (line : List ℕ) → IsHead h line → has_fields line ≡ true
+head_fields h line is = ap is_some is.given_so
+
+pub not_both : (h : Head) (kind : Kind) (line : List ℕ) → IsHead h line → IsWrong kind line → ⊥
+not_both h Cut line is w = w
+not_both h Long line is w = w
+not_both h Word line is w = no_truth (sym (fields_built line (head_fields h line is)) ∙ w.0)
+not_both h Later line is w = no_truth (sym w ∙ built_not_later (word line) (fields_built line (head_fields h line is)))
+not_both h Field line is w = no_truth (sym (head_fields h line is) ∙ w.1)
+not_both h Value line is w = w.1 h is
+not_both h Tail line is w = w
+
+-- the kind of a line that says nothing
 abbrev pub kind_of : List ℕ → Kind
-kind_of line = if is_among later_words (word line) then Later else (if is_among built_words (word line) then (if has_fields line then Value else Field) else Word)
+kind_of line = if is_among later_words (word line) then Later else (if is_built line then (if has_fields line then Value else Field) else Word)
 
 kind_here : (a b c d e f : Bool) → a ≡ d → b ≡ e → c ≡ f → (if a then Later else (if b then (if c then Value else Field) else Word)) ≡ (if d then Later else (if e then (if f then Value else Field) else Word))
 kind_here a b c d e f p q r = rw (p, q, r)
@@ -167,32 +122,231 @@ pub kind_is : (kind : Kind) (line : List ℕ) → IsWrong kind line → kind ≡
 kind_is Cut line w = absurd w
 kind_is Long line w = absurd w
 kind_is Word line w = sym (kind_here _ _ (has_fields line) false false (has_fields line) w.1 w.0 refl)
-kind_is Later line w = sym (kind_here _ (is_among built_words (word line)) (has_fields line) true (is_among built_words (word line)) (has_fields line) w refl refl)
-kind_is Field line w = sym (kind_here _ _ _ false true false (built_not_later (word line) w.0) w.0 (elim (cases_Bool (has_fields line)) [
-  | inl t ↦ absurd (w.1 (fields_is line t))
-  | inr t ↦ t
-]))
-kind_is Value line w = let built = fields_built line w.0 in sym (kind_here _ _ _ false true true (built_not_later (word line) built) built (fields_has line w.0))
+kind_is Later line w = sym (kind_here _ (is_built line) (has_fields line) true (is_built line) (has_fields line) w refl refl)
+kind_is Field line w = sym (kind_here _ _ _ false true false (built_not_later (word line) w.0) w.0 w.1)
+kind_is Value line w = let built = fields_built line w.0 in sym (kind_here _ _ _ false true true (built_not_later (word line) built) built w.0)
 kind_is Tail line w = absurd w
 
-abbrev pub LineIs : List ℕ → Type 0
-LineIs line = ((c : Command) × IsLine c line) ⊎ ((kind : Kind) × IsWrong kind line)
+-- which words are whose
 
-text_is : (line value : List ℕ) → line ≡ codes "remove dims=" ++ value → HasNo 32 value → (r : Result (List Dim) ℕ) → items_at 40 value ≡ r → LineIs line
-text_is line value whole free (Ok dims) e = inl (Remove dims, (value, whole, found value dims e))
-text_is line value whole free (Err left) e = inr (Value, remove_value line value whole free (λ dims is. only_fault value left dims e is))
+abbrev is_tile : List ℕ → Bool
+is_tile w = bytes_eq w (codes "add") || bytes_eq w (codes "replace")
+
+verb_tile : (verb : Verb) → is_tile (tile_word verb) ≡ true
+verb_tile Adds = refl
+verb_tile Replaces = refl
+
+abbrev SomeTile : List (List ℕ) → Type 0
+SomeTile values = (info : EntryInfo) × (meta : ℕ) × (pixels : ℕ) × (tail : ℕ) × IsTile info meta pixels tail values
+
+not_tile : (w : List ℕ) (verb : Verb) → is_tile w ≡ false → w ≡ tile_word verb → ⊥
+not_tile w verb other e = no_truth (sym (ap is_tile e ∙ verb_tile verb) ∙ other)
+
+pub only_tile : (verb : Verb) (h : Head) (values : List (List ℕ)) → head_word h ≡ tile_word verb → AreValues h values → SomeTile values
+only_tile verb (Tile v info meta pixels tail) values named are = (info, meta, pixels, tail, are)
+only_tile verb (Alone (Remove dims)) values named are = absurd (not_tile _ verb refl named)
+only_tile verb (Alone Listing) values named are = absurd (not_tile _ verb refl named)
+only_tile verb (Alone Info) values named are = absurd (not_tile _ verb refl named)
+only_tile verb (Alone Map) values named are = absurd (not_tile _ verb refl named)
+only_tile verb (Alone Check) values named are = absurd (not_tile _ verb refl named)
+only_tile verb (Alone (Add info meta pixels tail)) values named are = absurd are
+only_tile verb (Alone (Replace info meta pixels tail)) values named are = absurd are
+only_tile verb (Alone (Past len limit)) values named are = absurd are
+
+apart : (a b : List ℕ) → bytes_eq a b ≡ false → bytes_eq b b ≡ true → a ≡ b → ⊥
+apart a b other same e = no_truth (sym same ∙ ap (λ x. bytes_eq x b) (sym e) ∙ other)
+
+abbrev SomeDims : List (List ℕ) → Type 0
+SomeDims values = (dims : List Dim) × (text : List ℕ) × (values ≡ text ∷ []) × IsDimText text dims
+
+pub only_remove : (h : Head) (values : List (List ℕ)) → head_word h ≡ codes "remove" → AreValues h values → SomeDims values
+only_remove (Tile Adds info meta pixels tail) values named are = absurd (apart _ (codes "remove") refl refl named)
+only_remove (Tile Replaces info meta pixels tail) values named are = absurd (apart _ (codes "remove") refl refl named)
+only_remove (Alone (Remove dims)) values named are = (dims, are.0, are.1, are.2)
+only_remove (Alone Listing) values named are = absurd (apart _ (codes "remove") refl refl named)
+only_remove (Alone Info) values named are = absurd (apart _ (codes "remove") refl refl named)
+only_remove (Alone Map) values named are = absurd (apart _ (codes "remove") refl refl named)
+only_remove (Alone Check) values named are = absurd (apart _ (codes "remove") refl refl named)
+only_remove (Alone (Add info meta pixels tail)) values named are = absurd are
+only_remove (Alone (Replace info meta pixels tail)) values named are = absurd are
+only_remove (Alone (Past len limit)) values named are = absurd are
+
+abbrev is_bare : List ℕ → Bool
+is_bare w = is_among (codes "list" ∷ codes "info" ∷ codes "map" ∷ codes "check" ∷ []) w
+
+some_values : (v : List ℕ) (values : List (List ℕ)) → v ∷ values ≡ [] → ⊥
+some_values v values e = cc
+
+no_bare : (h : Head) (v : List ℕ) (values : List (List ℕ)) → is_bare (head_word h) ≡ true → AreValues h (v ∷ values) → ⊥
+no_bare (Tile Adds info meta pixels tail) v values bare are = no_truth (sym bare)
+no_bare (Tile Replaces info meta pixels tail) v values bare are = no_truth (sym bare)
+no_bare (Alone (Remove dims)) v values bare are = no_truth (sym bare)
+no_bare (Alone Listing) v values bare are = some_values v values are
+no_bare (Alone Info) v values bare are = some_values v values are
+no_bare (Alone Map) v values bare are = some_values v values are
+no_bare (Alone Check) v values bare are = some_values v values are
+no_bare (Alone (Add info meta pixels tail)) v values bare are = are
+no_bare (Alone (Replace info meta pixels tail)) v values bare are = are
+no_bare (Alone (Past len limit)) v values bare are = are
+
+-- whether values are of their form
+
+below_or : (most : ℕ) (text : List ℕ) → ((n : ℕ) × IsNatural text n × (n < most)) ⊎ ((n : ℕ) → IsNatural text n → n < most → ⊥)
+below_or most text = elim (natural_or text) [
+  | inr none ↦ inr (λ n is lt. none n is)
+  | inl x ↦ elim (less_or x.0 most) [
+    | inl lt ↦ inl (x.0, x.1, lt)
+    | inr le ↦ inr (λ n is lt. let same : n ≡ x.0 = same_natural text n x.0 is x.1 in omega (arith, same, lt, le))
+  ]
+]
+
+dims_by : (text : List ℕ) (r : Result (List Dim) ℕ) → items_at 40 text ≡ r → ((dims : List Dim) × IsDimText text dims) ⊎ ((dims : List Dim) → IsDimText text dims → ⊥)
+dims_by text (Ok dims) e = inl (dims, found text dims e)
+dims_by text (Err left) e = inr (λ dims is. only_fault text left dims e is)
+
+abbrev TileOr : List (List ℕ) → Type 0
+TileOr values = SomeTile values ⊎ (SomeTile values → ⊥)
+
+-- what a value of them would be, where one isn't of its form
+wrong_pixel : (a b c d e f g : List ℕ) → ((n : ℤ) → IsSigned a n → ⊥) → SomeTile (a ∷ b ∷ c ∷ d ∷ e ∷ f ∷ g ∷ []) → ⊥
+wrong_pixel a b c d e f g none t = let r = t.4 in none t.0.pixel (subst (λ x. IsSigned x t.0.pixel) (sym (ap (nth 0) r.texts)) r.is_pixel)
+
+wrong_comp : (a b c d e f g : List ℕ) → ((n : ℤ) → IsSigned b n → ⊥) → SomeTile (a ∷ b ∷ c ∷ d ∷ e ∷ f ∷ g ∷ []) → ⊥
+wrong_comp a b c d e f g none t = let r = t.4 in none t.0.compression (subst (λ x. IsSigned x t.0.compression) (sym (ap (nth 1) r.texts)) r.is_comp)
+
+wrong_pyramid : (a b c d e f g : List ℕ) → ((n : ℕ) → IsNatural c n → n < 2 ^ 8 → ⊥) → SomeTile (a ∷ b ∷ c ∷ d ∷ e ∷ f ∷ g ∷ []) → ⊥
+wrong_pyramid a b c d e f g none t = let r = t.4 in none t.0.pyramid (subst (λ x. IsNatural x t.0.pyramid) (sym (ap (nth 2) r.texts)) r.is_pyramid.0) r.is_pyramid.1
+
+wrong_dims : (a b c d e f g : List ℕ) → ((dims : List Dim) → IsDimText d dims → ⊥) → SomeTile (a ∷ b ∷ c ∷ d ∷ e ∷ f ∷ g ∷ []) → ⊥
+wrong_dims a b c d e f g none t = let r = t.4 in none t.0.dims (subst (λ x. IsDimText x t.0.dims) (sym (ap (nth 3) r.texts)) r.is_dims)
+
+wrong_meta : (a b c d e f g : List ℕ) → ((n : ℕ) → IsNatural e n → n < 2 ^ 64 → ⊥) → SomeTile (a ∷ b ∷ c ∷ d ∷ e ∷ f ∷ g ∷ []) → ⊥
+wrong_meta a b c d e f g none t = let r = t.4 in none t.1 (subst (λ x. IsNatural x t.1) (sym (ap (nth 4) r.texts)) r.is_meta.0) r.is_meta.1
+
+wrong_data : (a b c d e f g : List ℕ) → ((n : ℕ) → IsNatural f n → n < 2 ^ 64 → ⊥) → SomeTile (a ∷ b ∷ c ∷ d ∷ e ∷ f ∷ g ∷ []) → ⊥
+wrong_data a b c d e f g none t = let r = t.4 in none t.2 (subst (λ x. IsNatural x t.2) (sym (ap (nth 5) r.texts)) r.is_data.0) r.is_data.1
+
+wrong_att : (a b c d e f g : List ℕ) → ((n : ℕ) → IsNatural g n → n < 2 ^ 64 → ⊥) → SomeTile (a ∷ b ∷ c ∷ d ∷ e ∷ f ∷ g ∷ []) → ⊥
+wrong_att a b c d e f g none t = let r = t.4 in none t.3 (subst (λ x. IsNatural x t.3) (sym (ap (nth 6) r.texts)) r.is_att.0) r.is_att.1
+
+seven : (a b c d e f g : List ℕ) → TileOr (a ∷ b ∷ c ∷ d ∷ e ∷ f ∷ g ∷ [])
+seven a b c d e f g = elim (number_or a) [
+  | inr none ↦ inr (wrong_pixel a b c d e f g (λ n is. none n is.0 is.1))
+  | inl pixel ↦ elim (number_or b) [
+    | inr none ↦ inr (wrong_comp a b c d e f g (λ n is. none n is.0 is.1))
+    | inl comp ↦ elim (below_or (2 ^ 8) c) [
+      | inr none ↦ inr (wrong_pyramid a b c d e f g none)
+      | inl pyramid ↦ elim (dims_by d (items_at 40 d) refl) [
+        | inr none ↦ inr (wrong_dims a b c d e f g none)
+        | inl dims ↦ elim (below_or (2 ^ 64) e) [
+          | inr none ↦ inr (wrong_meta a b c d e f g none)
+          | inl meta ↦ elim (below_or (2 ^ 64) f) [
+            | inr none ↦ inr (wrong_data a b c d e f g none)
+            | inl pixels ↦ elim (below_or (2 ^ 64) g) [
+              | inr none ↦ inr (wrong_att a b c d e f g none)
+              | inl tail ↦ inl (
+                record { pixel = pixel.0; compression = comp.0; pyramid = pyramid.0; spare = replicate 5 0; dims = dims.0 },
+                meta.0,
+                pixels.0,
+                tail.0,
+                record {
+                  pixel_text = a;
+                  comp_text = b;
+                  pyramid_text = c;
+                  dims_text = d;
+                  meta_text = e;
+                  data_text = f;
+                  att_text = g;
+                  texts = refl;
+                  is_pixel = (pixel.1, pixel.2);
+                  is_comp = (comp.1, comp.2);
+                  is_pyramid = (pyramid.1, pyramid.2);
+                  is_dims = dims.1;
+                  is_meta = (meta.1, meta.2);
+                  is_data = (pixels.1, pixels.2);
+                  is_att = (tail.1, tail.2);
+                  spare = refl;
+                },
+              )
+            ]
+          ]
+        ]
+      ]
+    ]
+  ]
+]
+
+other_len : (values : List (List ℕ)) (n : ℕ) → length values ≡ n → (n ≡ 7 → ⊥) → SomeTile values → ⊥
+other_len values n len other t = let k : length values ≡ 7 = ap length t.4.texts in other (omega (arith, k, len))
+
+tile_or : (values : List (List ℕ)) → TileOr values
+tile_or [] = inr (other_len [] 0 refl (λ e. omega (arith, e)))
+tile_or (a ∷ []) = inr (other_len _ 1 refl (λ e. omega (arith, e)))
+tile_or (a ∷ b ∷ []) = inr (other_len _ 2 refl (λ e. omega (arith, e)))
+tile_or (a ∷ b ∷ c ∷ []) = inr (other_len _ 3 refl (λ e. omega (arith, e)))
+tile_or (a ∷ b ∷ c ∷ d ∷ []) = inr (other_len _ 4 refl (λ e. omega (arith, e)))
+tile_or (a ∷ b ∷ c ∷ d ∷ e ∷ []) = inr (other_len _ 5 refl (λ e. omega (arith, e)))
+tile_or (a ∷ b ∷ c ∷ d ∷ e ∷ f ∷ []) = inr (other_len _ 6 refl (λ e. omega (arith, e)))
+tile_or (a ∷ b ∷ c ∷ d ∷ e ∷ f ∷ g ∷ []) = seven a b c d e f g
+tile_or (a ∷ b ∷ c ∷ d ∷ e ∷ f ∷ g ∷ h ∷ values) = inr (λ t. let k : 8 + length values ≡ 7 = more (length values) (ap length t.4.texts) in omega (arith, k))
+  where
+    more : (n : ℕ) → suc (suc (suc (suc (suc (suc (suc (suc n))))))) ≡ 7 → 8 + n ≡ 7
+    more n e = omega (arith, e)
+
+dims_or : (values : List (List ℕ)) → SomeDims values ⊎ (SomeDims values → ⊥)
+dims_or [] = inr (λ t. some_values t.1 [] (sym t.2))
+dims_or (text ∷ []) = elim (dims_by text (items_at 40 text) refl) [
+  | inl dims ↦ inl (dims.0, text, refl, dims.1)
+  | inr none ↦ inr (λ t. none t.0 (subst (λ x. IsDimText x t.0) (sym (ap (nth 0) t.2)) t.3))
+]
+dims_or (text ∷ more ∷ values) = inr (λ t. let k : suc (suc (length values)) ≡ 1 = ap length t.2 in omega (arith, k))
+
+-- what a word and values say
+abbrev SaysSo : List ℕ → Type 0
+SaysSo w = (values : List (List ℕ)) → ((h : Head) × (head_word h ≡ w) × AreValues h values) ⊎ ((h : Head) → head_word h ≡ w → AreValues h values → ⊥)
+
+tile_says : (verb : Verb) → SaysSo (tile_word verb)
+tile_says verb = λ values. elim (tile_or values) [
+  | inl t ↦ inl (Tile verb t.0 t.1 t.2 t.3, refl, t.4)
+  | inr none ↦ inr (λ h named are. none (only_tile verb h values named are))
+]
+
+remove_says : SaysSo (codes "remove")
+remove_says = λ values. elim (dims_or values) [
+  | inl t ↦ inl (Alone (Remove t.0), refl, (t.1, t.2, t.3))
+  | inr none ↦ inr (λ h named are. none (only_remove h values named are))
+]
+
+bare_says : (w : List ℕ) (h : Head) → head_word h ≡ w → is_bare w ≡ true → AreValues h [] → SaysSo w
+bare_says w h named bare are [] = inl (h, named, are)
+bare_says w h named bare are (v ∷ values) = inr (λ k other has. no_bare k v values (ap is_bare other ∙ bare) has)
+
+abbrev pub LineIs : List ℕ → Type 0
+LineIs line = ((h : Head) × IsHead h line) ⊎ ((kind : Kind) × IsWrong kind line)
+
+says_so : (w : List ℕ) → is_some (fields_for lines w) ≡ true → SaysSo w
+says_so w built = each_line SaysSo lines
+    (tile_says Adds, (tile_says Replaces, (remove_says, (bare_says _ (Alone Listing) refl refl refl, (bare_says _ (Alone Info) refl refl refl, (bare_says _ (Alone Map) refl refl refl, (bare_says _ (Alone Check) refl refl refl, tt)))))))
+    w built
+
+value_is : (line : List ℕ) (o : Option (List (List ℕ))) → values_of line ≡ o → is_some o ≡ true → SaysSo (word line) → LineIs line
+value_is line None e some says = absurd (no_truth (sym some))
+value_is line (Some values) e some says = elim (says values) [
+  | inl x ↦ inl (x.0, record { values = values; named = sym x.1; given_so = e; are = x.2 })
+  | inr none ↦ inr (Value, (ap is_some e, λ h is. none h (sym is.named) (subst (AreValues h) (same (values_of line) is.values values is.given_so e) is.are)))
+]
+  where
+    same : (o : Option (List (List ℕ))) (a b : List (List ℕ)) → o ≡ Some a → o ≡ Some b → a ≡ b
+    same o a b e f = cc
 
 pub line_is : (line : List ℕ) → LineIs line
 line_is line = elim (cases_Bool (is_among later_words (word line))) [
   | inl later ↦ inr (Later, later)
-  | inr later ↦ elim (cases_Bool (is_among built_words (word line))) [
+  | inr later ↦ elim (cases_Bool (is_built line)) [
     | inr built ↦ inr (Word, (built, later))
     | inl built ↦ elim (cases_Bool (has_fields line)) [
-      | inr none ↦ inr (Field, (built, λ has. no_truth (sym (fields_has line has) ∙ none)))
-      | inl some ↦ elim (fields_is line some) [
-        | inl r ↦ text_is line r.0 r.1 r.2 (items_at 40 r.0) refl
-        | inr bare ↦ inl (each_word (λ x. (c : Command) × IsLine c x) bare_words ((Listing, refl), ((Info, refl), ((Map, refl), ((Check, refl), tt)))) line bare)
-      ]
+      | inr none ↦ inr (Field, (built, none))
+      | inl some ↦ value_is line (values_of line) refl some (says_so (word line) built)
     ]
   ]
 ]

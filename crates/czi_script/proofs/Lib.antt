@@ -1,10 +1,13 @@
-pub mod Bytes
-pub mod LineKinds
-pub mod Windows
-pub mod Steps
-pub mod Shown
-pub mod Grammar
+mod Bytes
+mod Windows
+mod Steps
+mod Words
+mod Grammar
+mod Values
 pub mod Faults
 pub mod Reading
-pub mod Found
+mod Found
+mod Passing
+mod Payloads
+mod Shown
 pub mod Course

@@ -5,7 +5,7 @@ use Rattle.std.proofs.Math.Seq.{take-append-add}
 use Rattle.czi_script.specs.declared.kind.Kind.{Kind}
 use Rattle.czi_script.specs.declared.kind.Kind.TheVariants.{Cut}
 use Rattle.czi_script.specs.Script.{Command, Spells, IsFault, End, Done, Fault, IsEnd, NoneBegins, SpellAll, Reads, Shows}
-use Rattle.czi_script.proofs.Faults.{no_cons, SameSpelling, spelled_once, spelled_some, spelled_len, fault_some, one_kind, fault_stuck, fault_stays, begun}
+use Rattle.czi_script.proofs.Faults.{no_cons, SameSpelling, spelled_once, spelled_some, spelled_size, fault_some, one_kind, fault_stuck, fault_stays, begun}
 
 pub empty_stuck : NoneBegins []
 empty_stuck = λ c spelled more s e. spelled_some c spelled more s (sym e)
@@ -103,7 +103,7 @@ shorter : (c : Command) (bytes spelled more : List ℕ) (n : ℕ) → Spells c s
 shorter c bytes spelled more n s e le =
     let a : length bytes ≡ length (spelled ++ more) = ap length e in
     let b : length (spelled ++ more) ≡ length spelled + length more = length-append spelled more in
-    let d : length spelled ≡ length s.line + 1 = spelled_len c spelled s in
+    let d = spelled_size c spelled s in
     omega (arith, a, b, d, le)
 
 -- each byte list is read

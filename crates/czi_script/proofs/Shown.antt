@@ -1,18 +1,21 @@
--- What the bytes that are held show of all that is ahead.
-use Rattle.std.proofs.Common.{◌≡◌, ℕ, ◌+◌, ◌-◌, ◌<◌, ◌≤◌, List, [], ◌∷◌, ◌++◌, take, drop, length, Option, Some, None, refl, ap, sym, ◌∙◌, subst, arith, inl, inr, append-nil, append_assoc, length-append, length-take, length-drop, min, take_at}
-use Rattle.std.proofs.Math.Seq.{take-append-add, drop-append-add, drop-append_seam}
+-- What the bytes that are held, and those that were used of an unfinished command, show of all that is ahead.
+use Rattle.std.proofs.Common.{◌≡◌, ℕ, ◌+◌, ◌-◌, ◌<◌, ◌≤◌, List, [], ◌∷◌, ◌++◌, take, drop, length, Option, Some, refl, ap, sym, ◌∙◌, subst, arith, inl, inr, append-nil, append_assoc, length-append, length-take, min, take_at}
+use Rattle.std.specs.Prelude.{◌≢◌}
+use Rattle.std.proofs.Math.Seq.{take-append-add, drop-append_seam}
 use Rattle.std.proofs.lemmas.List.{take-append-le}
-use Rattle.std.proofs.lemmas.Option.{same_Some, none-some}
 use Rattle.czi_script.specs.declared.kind.Kind.{Kind}
-use Rattle.czi_script.specs.declared.kind.Kind.TheVariants.{Cut, Long, Word, Later, Field, Value, Tail}
+use Rattle.czi_script.specs.declared.kind.Kind.TheVariants.{Cut, Long, Tail}
 use Rattle.czi_script.specs.declared.error.ScriptError.{ScriptError}
 use Rattle.czi_script.specs.declared.error.ScriptError.TheVariants.{Fault, Input as InputFailed, TooLong, Memory}
 use Rattle.czi_script.specs.declared.command.Command.{Command as CodeCommand}
+use Rattle.czi_script.specs.declared.head.Head.{Head as CodeHead}
 use Rattle.czi_script.specs.declared.lines.Front.TheVariants.{Line}
-use Rattle.czi_script.specs.Script.{Command, HasNo, IsLine, Spells, FirstLine, IsWrong, IsFault, Shows, Finds, Beyond}
-use Rattle.czi_script.specs.View.{command_of}
-use Rattle.czi_script.specs.Reader.{Reader, IsReader, ahead, used, room, limit, FindsError, LeavesError, TakesFirst, lost_by}
-use Rattle.czi_script.specs.Pieces.{IsFront, TookOn, GoesOn, Lines, LineFault, LineStops, UsesLine, RefusesLine}
+use Rattle.czi_script.specs.Script.{Command, Head, HasNo, IsHead, Spells, FirstLine, IsWrong, IsFault, IsUnfinished, Shows, Finds, Beyond, payload_len, close}
+use Rattle.czi_script.specs.View.{command_of, head_of}
+use Rattle.czi_script.specs.Reader.{Reader, IsReader, Uses, GoesOn, ahead, used, room, limit, FindsError, LeavesError, TakesFirst, lost_by}
+use Rattle.czi_script.specs.Pieces.{IsFront, AtEnd, TookOn, Lines, LineFault, LineStops, UsesLine, RefusesLine, Passed, PassedPart, OtherByte, Finished, PayloadStops}
+use Rattle.czi_script.proofs.Faults.{fault_of_wrong, spells_so}
+use Rattle.czi_script.proofs.Passing.{Rest, rest_of, took_ahead, same_used, passed_none, passed_front, passed_both, takes_passed, takes_both, takes_one_more}
 
 -- A front of the bytes that has as many as may be taken holds all that is held.
 room_front : (h rest : List ℕ) (r : ℕ) → length h ≤ r → take r (h ++ rest) ≡ h ++ take (r - length h) rest
@@ -33,15 +36,6 @@ first_line h ys len f = record {
   short = let n : length (take len h) ≡ min len (length h) = length-take len h in omega (arith, n, f.0);
 }
 
-pub fault_of_wrong : (kind : Kind) (line bytes : List ℕ) → FirstLine line bytes → IsWrong kind line → IsFault kind bytes
-fault_of_wrong Cut line bytes f w = absurd w
-fault_of_wrong Long line bytes f w = absurd w
-fault_of_wrong Word line bytes f w = (line, f, w)
-fault_of_wrong Later line bytes f w = (line, f, w)
-fault_of_wrong Field line bytes f w = (line, f, w)
-fault_of_wrong Value line bytes f w = (line, f, w)
-fault_of_wrong Tail line bytes f w = absurd w
-
 wrong_shown : (h rest : List ℕ) (r len : ℕ) (kind : Kind) → length h ≤ r → IsFront h (Line len) → IsWrong kind (take len h) → Shows r kind (h ++ rest)
 wrong_shown h rest r len kind le f w = inr (λ more. subst (IsFault kind) (sym (every h rest more r le)) (fault_of_wrong kind (take len h) _ (first_line h _ len f) w))
 
@@ -54,51 +48,11 @@ long_shown h rest r le f = inr (λ more. subst (IsFault Long) (sym (every h rest
 cut_shown : (h rest : List ℕ) (r : ℕ) → length h ≤ r → IsFault Cut h → rest ≡ [] → Shows r Cut (h ++ rest)
 cut_shown h rest r le f none = subst (Shows r Cut) (sym (ap (λ l. h ++ l) none ∙ append-nil h)) (inl (le, f))
 
-beyond_shown : (h rest : List ℕ) (b r : ℕ) → r ≡ length h → length h < 4096 → HasNo 10 h → Finds r (h ++ b ∷ rest) Beyond
-beyond_shown h rest b r full short free = (
+beyond_shown : (h rest : List ℕ) (b r : ℕ) → r ≡ length h → IsUnfinished h → Finds r (h ++ b ∷ rest) Beyond
+beyond_shown h rest b r full unfinished = (
   let n : length (h ++ b ∷ rest) ≡ length h + length (b ∷ rest) = length-append h (b ∷ rest) in omega (arith, n, full),
-  subst (HasNo 10) (sym (take_at h (b ∷ rest) r (sym full))) free,
-  omega (arith, full, short),
+  subst IsUnfinished (sym (take_at h (b ∷ rest) r (sym full))) unfinished,
 )
-
--- the line in front spells a command
-record Spelled (c : Command) (h : List ℕ) (len : ℕ) : Type 0 where
-  spells : Spells c (take len h ++ 10 ∷ [])
-  long : length (take len h ++ 10 ∷ []) ≡ len + 1
-  whole : h ≡ (take len h ++ 10 ∷ []) ++ drop (len + 1) h
-
-spelled : (c : Command) (h : List ℕ) (len : ℕ) → IsFront h (Line len) → IsLine c (take len h) → Spelled c h len
-spelled c h len f is =
-    let n : length (take len h) ≡ min len (length h) = length-take len h in
-    let m : length (take len h ++ 10 ∷ []) ≡ length (take len h) + 1 = length-append (take len h) (10 ∷ []) in
-    let long : length (take len h ++ 10 ∷ []) ≡ len + 1 = omega (arith, n, m, f.1) in
-    record {
-      spells = record { line = take len h; whole = refl; is_line = is; short = omega (arith, long, f.0) };
-      long = long;
-      whole = f.3 ∙ sym (append_assoc (take len h) (10 ∷ []) (drop (len + 1) h));
-    }
-
--- what is ahead is what is held, and then what is left
-pub record Rest (h bytes : List ℕ) (after : Option (List ℕ)) : Type 0 where
-  pub rest : List ℕ
-  pub left : after ≡ Some rest
-  pub whole : bytes ≡ h ++ rest
-
-pub took_ahead : (old new : Reader) (before after : Option (List ℕ)) (more bytes : List ℕ) → TookOn old new before after more → ahead old before ≡ Some bytes → Rest new.held bytes after
-took_ahead old new None after more bytes t is = absurd (none-some bytes is)
-took_ahead old new (Some left) after more bytes t is =
-    let x = t.adds.left left refl in
-    record {
-      rest = x.0;
-      left = x.2;
-      whole = sym (same_Some (old.held ++ left) bytes is) ∙ ap (λ l. old.held ++ l) x.1 ∙ sym (append_assoc old.held more x.0) ∙ ap (λ l. l ++ x.0) (sym t.adds.whole);
-    }
-
-pub same_used : (old new : Reader) (before after : Option (List ℕ)) (more : List ℕ) → TookOn old new before after more → used new ≡ used old
-same_used old new before after more t =
-    let n : length new.held ≡ length (old.held ++ more) = ap length t.adds.whole in
-    let m : length (old.held ++ more) ≡ length old.held + length more = length-append old.held more in
-    omega (arith, n, m, t.taken)
 
 held_room : (old new : Reader) (before after : Option (List ℕ)) (more : List ℕ) → IsReader new → TookOn old new before after more → length new.held ≤ room old
 held_room old new before after more sound t =
@@ -108,7 +62,7 @@ full_room : (old new : Reader) (before after : Option (List ℕ)) (more : List �
 full_room old new before after more sound t full =
     let u : used new ≡ used old = same_used old new before after more t in omega (arith, u, sound.counted, sound.few, full)
 
--- no whole command is in front
+-- no whole line is in front
 fault_found : (old new : Reader) (before after : Option (List ℕ)) (number : ℕ) (kind : Kind) (bytes : List ℕ) → IsReader new → LineFault old new before after number kind → ahead old before ≡ Some bytes → Shows (room old) kind bytes
 fault_found old new before after number kind bytes sound f is = elim f.fault [
   | inl long ↦ subst (λ b. Shows (room old) kind b) (sym a.whole) (subst (λ k. Shows (room old) k (new.held ++ a.rest)) (sym long.1) (long_shown new.held a.rest (room old) fits long.0))
@@ -127,24 +81,18 @@ finds_stopped old new before after InputFailed bytes sound f is = tt
 finds_stopped old new before after TooLong bytes sound f is =
     let a = took_ahead old new before f.middle f.more bytes f.took is in
     let g = f.goes_on a.rest a.left in
-    subst (λ b. Finds (room old) b Beyond) (sym (a.whole ∙ ap (λ l. new.held ++ l) g.2)) (beyond_shown new.held g.1 g.0 (room old) (full_room old new before f.middle f.more sound f.took f.full) f.unfinished.short f.unfinished.free)
+    subst (λ b. Finds (room old) b Beyond) (sym (a.whole ∙ ap (λ l. new.held ++ l) g.2))
+    (beyond_shown new.held g.1 g.0 (room old) (full_room old new before f.middle f.more sound f.took f.full) (inl (f.unfinished.free, f.unfinished.short)))
 finds_stopped old new before after Memory bytes sound f is = absurd f
 
-still_ahead : (old new : Reader) (before after : Option (List ℕ)) (more bytes : List ℕ) → TookOn old new before after more → ahead old before ≡ Some bytes → ahead new after ≡ Some bytes
-still_ahead old new before after more bytes t is =
-    let a = took_ahead old new before after more bytes t is in ap (ahead new) a.left ∙ ap Some (sym a.whole)
+none_unfinished : IsUnfinished []
+none_unfinished = inl (tt, omega arith)
 
-pub leaves_stopped : (old new : Reader) (before after : Option (List ℕ)) (error : ScriptError) (bytes : List ℕ) → LineStops old new before after error → ahead old before ≡ Some bytes → LeavesError old new bytes (ahead new after) error
-leaves_stopped old new before after (Fault number kind) bytes f is = still_ahead old new before after f.more bytes f.took is
-leaves_stopped old new before after InputFailed bytes f is = still_ahead old new before after f.more bytes f.took is
-leaves_stopped old new before after TooLong bytes f is =
-    let a = took_ahead old new before f.middle f.more bytes f.took is in
-    let g = f.goes_on a.rest a.left in
-    ap (ahead new) g.3 ∙ ap (λ l. Some (new.held ++ l)) (sym (ap (drop (length new.held + 1)) (a.whole ∙ ap (λ l. new.held ++ l) g.2) ∙ behind new.held g.0 g.1))
-  where
-    behind : (h : List ℕ) (b : ℕ) (rest : List ℕ) → drop (length h + 1) (h ++ b ∷ rest) ≡ rest
-    behind h b rest = drop-append-add h (b ∷ rest) 1
-leaves_stopped old new before after Memory bytes f is = absurd f
+pub leaves_stopped : (old new : Reader) (before after : Option (List ℕ)) (error : ScriptError) → LineStops old new before after error → LeavesError old new before after error
+leaves_stopped old new before after (Fault number kind) f = ([], (passed_none old new before after f.more f.took).uses, none_unfinished)
+leaves_stopped old new before after InputFailed f = ([], (passed_none old new before after f.more f.took).uses, inl (f.unfinished.free, f.unfinished.short))
+leaves_stopped old new before after TooLong f = ([], f.middle, (passed_none old new before f.middle f.more f.took).uses, inl (f.unfinished.free, f.unfinished.short), f.full, f.goes_on)
+leaves_stopped old new before after Memory f = absurd f
 
 takes_line : (old new : Reader) (before after : Option (List ℕ)) (more : List ℕ) → TookOn old new before after more → TakesFirst old new before after 0
 takes_line old new before after more t = record {
@@ -162,29 +110,14 @@ takes_line old new before after more t = record {
     rest_is : (left rest : List ℕ) → left ≡ more ++ rest → rest ≡ drop ((new.taken - old.taken) + 0) left
     rest_is left rest e = sym (ap (λ k. drop k left) gone ∙ ap (drop (length more)) e ∙ drop-append_seam more rest)
 
-takes_one : (old new : Reader) (before middle after : Option (List ℕ)) (more : List ℕ) → TookOn old new before middle more → GoesOn middle after → TakesFirst old new before after 1
-takes_one old new before middle after more t goes = record {
-  later = omega (arith, t.taken);
-  inside = λ left is. let x = t.adds.left left is in let g = goes x.0 x.2 in inside left g.1 g.0 (x.1 ∙ ap (λ l. more ++ l) g.2);
-  rest = λ left is. let x = t.adds.left left is in let g = goes x.0 x.2 in g.3 ∙ ap Some (rest_is left g.1 g.0 (x.1 ∙ ap (λ l. more ++ l) g.2));
-}
-  where
-    gone : (new.taken - old.taken) + 1 ≡ length more + 1
-    gone = omega (arith, t.taken)
-
-    inside : (left rest : List ℕ) (b : ℕ) → left ≡ more ++ b ∷ rest → (new.taken - old.taken) + 1 ≤ length left
-    inside left rest b e = let n : length left ≡ length (more ++ b ∷ rest) = ap length e in let m : length (more ++ b ∷ rest) ≡ length more + length (b ∷ rest) = length-append more (b ∷ rest) in omega (arith, n, m, gone)
-
-    rest_is : (left rest : List ℕ) (b : ℕ) → left ≡ more ++ b ∷ rest → rest ≡ drop ((new.taken - old.taken) + 1) left
-    rest_is left rest b e = sym (ap (λ k. drop k left) gone ∙ ap (drop (length more + 1)) e ∙ drop-append-add more (b ∷ rest) 1)
-
 pub takes_stopped : (old new : Reader) (before after : Option (List ℕ)) (error : ScriptError) → LineStops old new before after error → TakesFirst old new before after (lost_by error)
 takes_stopped old new before after (Fault number kind) f = takes_line old new before after f.more f.took
 takes_stopped old new before after InputFailed f = takes_line old new before after f.more f.took
-takes_stopped old new before after TooLong f = takes_one old new before f.middle after f.more f.took f.goes_on
+takes_stopped old new before after TooLong f = takes_one_more old new before f.middle after (takes_line old new before f.middle f.more f.took) f.goes_on
 takes_stopped old new before after Memory f = absurd f
 
--- a whole line is in front
+-- a whole line is in front, and is wrong
+
 pub finds_refused : (old mid new : Reader) (before after : Option (List ℕ)) (len : ℕ) (error : ScriptError) (bytes : List ℕ) → IsReader mid → Lines old mid before after (Some len) → RefusesLine mid new len error → ahead old before ≡ Some bytes → FindsError old bytes error
 finds_refused old mid new before after len (Fault number kind) bytes sound l f is =
     let a = took_ahead old mid before after l.more bytes l.took is in
@@ -193,31 +126,217 @@ finds_refused old mid new before after len InputFailed bytes sound l f is = tt
 finds_refused old mid new before after len TooLong bytes sound l f is = absurd f
 finds_refused old mid new before after len Memory bytes sound l f is = tt
 
--- what was spelled, and what stands behind it
-pub record FoundNext (c : Command) (old new : Reader) (after : Option (List ℕ)) (bytes : List ℕ) : Type 0 where
-  pub spelled : List ℕ
-  pub more : List ℕ
-  pub whole : bytes ≡ spelled ++ more
-  pub spells : Spells c spelled
-  pub fits : length spelled ≤ room old
-  pub after_is : ahead new after ≡ Some more
-  pub uses : used new ≡ used old + length spelled
+pub leaves_refused : (old mid new : Reader) (before after : Option (List ℕ)) (len : ℕ) (error : ScriptError) → Lines old mid before after (Some len) → RefusesLine mid new len error → LeavesError old new before after error
+leaves_refused old mid new before after len (Fault number kind) l f = ([], subst (λ (r : Reader). Uses old r before after []) (sym f.0) (passed_none old mid before after l.more l.took).uses, none_unfinished)
+leaves_refused old mid new before after len InputFailed l f = absurd f
+leaves_refused old mid new before after len TooLong l f = absurd f
+leaves_refused old mid new before after len Memory l f = ([], subst (λ (r : Reader). Uses old r before after []) (sym f) (passed_none old mid before after l.more l.took).uses, none_unfinished)
 
-pub found_next : (c : CodeCommand) (old mid new : Reader) (before after : Option (List ℕ)) (len : ℕ) (bytes : List ℕ) → IsReader mid → Lines old mid before after (Some len) → UsesLine mid new len c → ahead old before ≡ Some bytes
-    → FoundNext (command_of c) old new after bytes
-found_next c old mid new before after len bytes sound l u is =
-    let a = took_ahead old mid before after l.more bytes l.took is in
-    let s = spelled (command_of c) mid.held len l.finds u.0 in
-    let fits : length mid.held ≤ room old = held_room old mid before after l.more sound l.took in
-    let same : used mid ≡ used old = same_used old mid before after l.more l.took in
-    let held : length new.held ≡ length (drop (len + 1) mid.held) = ap length u.1 in
-    let gone : length (drop (len + 1) mid.held) ≡ length mid.held - (len + 1) = length-drop (len + 1) mid.held in
-    record {
-      spelled = take len mid.held ++ 10 ∷ [];
-      more = drop (len + 1) mid.held ++ a.rest;
-      whole = a.whole ∙ ap (λ h. h ++ a.rest) s.whole ∙ append_assoc (take len mid.held ++ 10 ∷ []) (drop (len + 1) mid.held) a.rest;
-      spells = s.spells;
-      fits = omega (arith, s.long, fits, l.finds.1);
-      after_is = ap (ahead new) a.left ∙ ap (λ h. Some (h ++ a.rest)) u.1;
-      uses = omega (arith, same, held, gone, s.long, l.finds.1, u.2, sound.counted);
-    }
+pub takes_refused : (old mid new : Reader) (before after : Option (List ℕ)) (len : ℕ) (error : ScriptError) → Lines old mid before after (Some len) → RefusesLine mid new len error → TakesFirst old new before after (lost_by error)
+takes_refused old mid new before after len (Fault number kind) l f = subst (λ (r : Reader). TakesFirst old r before after 0) (sym f.0) (takes_line old mid before after l.more l.took)
+takes_refused old mid new before after len InputFailed l f = absurd f
+takes_refused old mid new before after len TooLong l f = absurd f
+takes_refused old mid new before after len Memory l f = subst (λ (r : Reader). TakesFirst old r before after 0) (sym f) (takes_line old mid before after l.more l.took)
+
+-- a whole line is in front and is used
+
+pub record AtPayload (old now : Reader) (before mid : Option (List ℕ)) (line : List ℕ) (h : Head) : Type 0 where
+  pub passed : Passed old now before mid (line ++ 10 ∷ [])
+  pub is_head : IsHead h line
+  pub free : HasNo 10 line
+  pub short : length line < 4096
+  pub takes : TakesFirst old now before mid 0
+  pub sound : IsReader now
+
+pub at_payload : (h : CodeHead) (old mid now : Reader) (before after : Option (List ℕ)) (len : ℕ) → IsReader mid → IsReader now → Lines old mid before after (Some len) → UsesLine mid now len h → AtPayload old now before after (take len mid.held) (head_of h)
+at_payload h old mid now before after len sound sound_now l u = record {
+  passed = passed_both old mid now before after after [] (take len mid.held ++ 10 ∷ []) (passed_none old mid before after l.more l.took)
+      (subst (Passed mid now after after) one_more (passed_front mid now after (len + 1) (omega (arith, l.finds.1)) (omega (arith, sound.counted)) u.1 u.2 u.3 u.4));
+  is_head = u.0;
+  free = l.finds.2;
+  short = let n : length (take len mid.held) ≡ min len (length mid.held) = length-take len mid.held in omega (arith, n, l.finds.0);
+  takes = takes_both old mid now before after after 0 (takes_line old mid before after l.more l.took)
+      (takes_passed mid now after after _ sound sound_now (passed_front mid now after (len + 1) (omega (arith, l.finds.1)) (omega (arith, sound.counted)) u.1 u.2 u.3 u.4));
+  sound = sound_now;
+}
+  where
+    front_len : length (take len mid.held ++ 10 ∷ []) ≡ len + 1
+    front_len =
+        let n : length (take len mid.held) ≡ min len (length mid.held) = length-take len mid.held in
+        let m : length (take len mid.held ++ 10 ∷ []) ≡ length (take len mid.held) + 1 = length-append (take len mid.held) (10 ∷ []) in
+        omega (arith, n, m, l.finds.1)
+
+    one_more : take (len + 1) mid.held ≡ take len mid.held ++ 10 ∷ []
+    one_more = ap (take (len + 1)) (l.finds.3 ∙ sym (append_assoc (take len mid.held) (10 ∷ []) (drop (len + 1) mid.held))) ∙ take_at (take len mid.held ++ 10 ∷ []) (drop (len + 1) mid.held) (len + 1) front_len
+
+module _ (old now : Reader) (before mid : Option (List ℕ)) (line : List ℕ) (h : Head) (p : AtPayload old now before mid line h) (new : Reader) (after : Option (List ℕ)) where
+  -- what was used of the command
+  all_gone : (last : Option (List ℕ)) (part : List ℕ) → Passed now new mid last part → Passed old new before last (line ++ 10 ∷ part)
+  all_gone last part q = subst (Passed old new before last) (append_assoc line (10 ∷ []) part) (passed_both old now new before mid last (line ++ 10 ∷ []) part p.passed q)
+
+  part_unfinished : (part : List ℕ) → close h ≡ 10 ∷ [] → length part ≤ payload_len h → IsUnfinished (line ++ 10 ∷ part)
+  part_unfinished part closed few = inr (record {
+    line = line;
+    head = h;
+    first = record { more = part; whole = refl; free = p.free; short = p.short };
+    is_head = p.is_head;
+    less = let n : length (close h) ≡ 1 = ap length closed in omega (arith, n, few);
+  })
+
+  gone_room : IsReader new → (last : Option (List ℕ)) (gone : List ℕ) → Passed old new before last gone → length gone + length new.held ≤ room old
+  gone_room sound last gone q = omega (arith, q.uses.counted, sound.counted, sound.few)
+
+  -- a command, whole
+
+  pub whole_command : (c : CodeCommand) → IsReader new → Finished now new mid after h c → (bytes : List ℕ) → ahead old before ≡ Some bytes
+      → (spelled more : List ℕ) × (bytes ≡ spelled ++ more) × Spells (command_of c) spelled × (length spelled ≤ room old) × (ahead new after ≡ Some more) × (used new ≡ used old + length spelled)
+  whole_command c sound f bytes is =
+      let q = all_gone after (f.payload ++ close h) f.passed in
+      let r = q.uses.rest bytes is in (
+        line ++ 10 ∷ (f.payload ++ close h),
+        r.0,
+        r.1,
+        subst (λ (d : Command). Spells d (line ++ 10 ∷ (f.payload ++ close h))) (sym f.tells) (spells_so h line f.payload p.is_head p.short p.free f.sized),
+        (let n = gone_room sound after (line ++ 10 ∷ (f.payload ++ close h)) q in omega (arith, n)),
+        r.2,
+        q.uses.counted,
+      )
+
+  pub takes_command : (c : CodeCommand) → IsReader new → Finished now new mid after h c → TakesFirst old new before after 0
+  takes_command c sound f = takes_both old now new before mid after 0 p.takes (takes_passed now new mid after (f.payload ++ close h) p.sound sound f.passed)
+
+  -- or not whole
+
+  nothing_left : (more : List ℕ) → new.held ≡ [] → AtEnd after → ahead new after ≡ Some more → more ≡ []
+  nothing_left more none ended is = let r = rest_of new after more is in r.whole ∙ ap (λ l. l ++ r.rest) none ∙ ended r.rest r.left
+
+  cut_found : IsReader new → close h ≡ 10 ∷ [] → PassedPart now new mid after (payload_len h) → new.held ≡ [] → AtEnd after → (bytes : List ℕ) → ahead old before ≡ Some bytes → Shows (room old) Cut bytes
+  cut_found sound closed q none ended bytes is =
+      let all = all_gone after q.part q.passed in
+      let r = all.uses.rest bytes is in
+      let n = gone_room sound after (line ++ 10 ∷ q.part) all in
+      let whole : bytes ≡ line ++ 10 ∷ q.part = r.1 ∙ ap (λ l. (line ++ 10 ∷ q.part) ++ l) (nothing_left r.0 none ended r.2) ∙ append-nil (line ++ 10 ∷ q.part) in
+      subst (Shows (room old) Cut) (sym whole) (inl (omega (arith, n), (some line q.part, part_unfinished q.part closed q.few)))
+    where
+      some : (line part : List ℕ) → line ++ 10 ∷ part ≢ []
+      some [] part = λ e. cc
+      some (x ∷ line) part = λ e. cc
+
+  tail_found : (number : ℕ) (kind : Kind) → IsReader new → close h ≡ 10 ∷ [] → OtherByte now new mid after (payload_len h) number kind → (bytes : List ℕ) → ahead old before ≡ Some bytes → Shows (room old) kind bytes
+  tail_found number kind sound closed f bytes is = subst (λ k. Shows (room old) k bytes) (sym f.is_tail) (inr (λ y. subst (IsFault Tail) (sym (turned y)) (otherwise (take (room old - length front) rest ++ y))))
+    where
+      all : Passed old new before after (line ++ 10 ∷ f.part)
+      all = all_gone after f.part f.passed
+
+      front : List ℕ
+      front = (line ++ 10 ∷ f.part) ++ f.byte ∷ []
+
+      at : Rest new.held (all.uses.rest bytes is).0 after
+      at = rest_of new after (all.uses.rest bytes is).0 (all.uses.rest bytes is).2
+
+      rest : List ℕ
+      rest = f.more ++ at.rest
+
+      whole : bytes ≡ front ++ rest
+      whole = (all.uses.rest bytes is).1 ∙ ap (λ l. (line ++ 10 ∷ f.part) ++ l) (at.whole ∙ ap (λ l. l ++ at.rest) f.held) ∙ sym (append_assoc (line ++ 10 ∷ f.part) (f.byte ∷ []) rest)
+
+      long : length front ≤ room old
+      long =
+          let a : length front ≡ length (line ++ 10 ∷ f.part) + 1 = length-append (line ++ 10 ∷ f.part) (f.byte ∷ []) in
+          let b : length new.held ≡ length (f.byte ∷ f.more) = ap length f.held in
+          let n = gone_room sound after (line ++ 10 ∷ f.part) all in
+          omega (arith, a, b, n)
+
+      turned : (y : List ℕ) → take (room old) bytes ++ y ≡ front ++ (take (room old - length front) rest ++ y)
+      turned y = ap (λ l. take (room old) l ++ y) whole ∙ every front rest y (room old) long
+
+      otherwise : (x : List ℕ) → IsFault Tail (front ++ x)
+      otherwise x = record {
+        line = line;
+        head = h;
+        payload = f.part;
+        byte = f.byte;
+        more = x;
+        first = record { more = f.part ++ f.byte ∷ x; whole = append_assoc (line ++ 10 ∷ f.part) (f.byte ∷ []) x ∙ append_assoc line (10 ∷ f.part) (f.byte ∷ x); free = p.free; short = p.short };
+        is_head = p.is_head;
+        sized = f.sized;
+        closed = closed;
+        behind = refl;
+        other = f.other;
+      }
+
+  beyond_found : (middle : Option (List ℕ)) → IsReader new → close h ≡ 10 ∷ [] → PassedPart now new mid middle (payload_len h) → new.held ≡ [] → new.taken ≡ limit → GoesOn middle after → (bytes : List ℕ) → ahead old before ≡ Some bytes
+      → Finds (room old) bytes Beyond
+  beyond_found middle sound closed q none full goes bytes is =
+      let all = all_gone middle q.part q.passed in
+      let r = all.uses.rest bytes is in
+      let at = rest_of new middle r.0 r.2 in
+      let on = goes at.rest at.left in
+      let empty : length new.held ≡ 0 = ap length none in
+      let whole : bytes ≡ (line ++ 10 ∷ q.part) ++ on.0 ∷ on.1 = r.1 ∙ ap (λ l. (line ++ 10 ∷ q.part) ++ l) (at.whole ∙ ap (λ l. l ++ at.rest) none ∙ on.2) in
+      subst (λ b. Finds (room old) b Beyond) (sym whole) (beyond_shown (line ++ 10 ∷ q.part) on.1 on.0 (room old) (omega (arith, all.uses.counted, full, empty, sound.few)) (part_unfinished q.part closed q.few))
+
+  pub finds_payload : (error : ScriptError) → IsReader new → PayloadStops now new mid after h error → (bytes : List ℕ) → ahead old before ≡ Some bytes → FindsError old bytes error
+  finds_payload (Fault number kind) sound f bytes is = elim f.1 [
+    | inl cut ↦ subst (λ k. Shows (room old) k bytes) (sym cut.2) (cut_found sound f.0 cut.0 cut.3 cut.4 bytes is)
+    | inr tail ↦ tail_found number kind sound f.0 tail bytes is
+  ]
+  finds_payload InputFailed sound f bytes is = tt
+  finds_payload TooLong sound f bytes is = elim f.1 [
+    | inl i ↦ beyond_found i.0 sound f.0 i.1 i.2 i.3 i.4 bytes is
+    | inr none ↦ absurd none
+  ]
+  finds_payload Memory sound f bytes is = tt
+
+  held_none : (part : List ℕ) → new.held ≡ [] → IsUnfinished (line ++ 10 ∷ part) → IsUnfinished ((line ++ 10 ∷ part) ++ new.held)
+  held_none part none u = subst IsUnfinished (sym (ap (λ l. (line ++ 10 ∷ part) ++ l) none ∙ append-nil (line ++ 10 ∷ part))) u
+
+  pub leaves_payload : (error : ScriptError) → PayloadStops now new mid after h error → LeavesError old new before after error
+  leaves_payload (Fault number kind) f = elim f.1 [
+    | inl cut ↦ (line ++ 10 ∷ cut.0.part, (all_gone after cut.0.part cut.0.passed).uses, part_unfinished cut.0.part f.0 cut.0.few)
+    | inr tail ↦ (line ++ 10 ∷ tail.part, (all_gone after tail.part tail.passed).uses, part_unfinished tail.part f.0 (let n : length tail.part ≡ payload_len h = tail.sized in omega (arith, n)))
+  ]
+  leaves_payload InputFailed f = elim f.1 [
+    | inl i ↦ (line ++ 10 ∷ i.0.part, (all_gone after i.0.part i.0.passed).uses, held_none i.0.part i.1 (part_unfinished i.0.part f.0 i.0.few))
+    | inr none ↦ absurd none
+  ]
+  leaves_payload TooLong f = elim f.1 [
+    | inl i ↦ (line ++ 10 ∷ i.1.part, i.0, (all_gone i.0 i.1.part i.1.passed).uses, held_none i.1.part i.2 (part_unfinished i.1.part f.0 i.1.few), i.3, i.4)
+    | inr none ↦ absurd none
+  ]
+  leaves_payload Memory f = elim f.1 [
+    | inl i ↦ (line ++ 10 ∷ i.part, (all_gone after i.part i.passed).uses, part_unfinished i.part f.0 i.few)
+    | inr none ↦ absurd none
+  ]
+
+  part_takes : IsReader new → (last : Option (List ℕ)) (part : List ℕ) → Passed now new mid last part → TakesFirst old new before last 0
+  part_takes sound last part q = takes_both old now new before mid last 0 p.takes (takes_passed now new mid last part p.sound sound q)
+
+  pub takes_payload : (error : ScriptError) → IsReader new → PayloadStops now new mid after h error → TakesFirst old new before after (lost_by error)
+  takes_payload (Fault number kind) sound f = elim f.1 [
+    | inl cut ↦ part_takes sound after cut.0.part cut.0.passed
+    | inr tail ↦ part_takes sound after tail.part tail.passed
+  ]
+  takes_payload InputFailed sound f = elim f.1 [ inl i ↦ part_takes sound after i.0.part i.0.passed | inr none ↦ absurd none ]
+  takes_payload TooLong sound f = elim f.1 [ inl i ↦ takes_one_more old new before i.0 after (part_takes sound i.0 i.1.part i.1.passed) i.4 | inr none ↦ absurd none ]
+  takes_payload Memory sound f = elim f.1 [ inl i ↦ part_takes sound after i.part i.passed | inr none ↦ absurd none ]
+
+-- one command more is counted
+abbrev pub counted : Reader → Reader
+counted r = record { held = r.held; taken = r.taken; commands = r.commands + 1; error = r.error }
+
+pub takes_counted : (old new : Reader) (before after : Option (List ℕ)) → TakesFirst old new before after 0 → TakesFirst old (counted new) before after 0
+takes_counted old new before after t = record { later = t.later; inside = t.inside; rest = t.rest }
+
+-- an error is kept
+abbrev pub keeping : Reader → ScriptError → Reader
+keeping r error = record { held = r.held; taken = r.taken; commands = r.commands; error = Some error }
+
+uses_kept : (old new : Reader) (kept : ScriptError) (before after : Option (List ℕ)) (gone : List ℕ) → Uses old new before after gone → Uses old (keeping new kept) before after gone
+uses_kept old new kept before after gone u = record { counted = u.counted; rest = u.rest }
+
+pub leaves_kept : (old new : Reader) (kept : ScriptError) (before after : Option (List ℕ)) (error : ScriptError) → LeavesError old new before after error → LeavesError old (keeping new kept) before after error
+leaves_kept old new kept before after (Fault number kind) l = (l.0, uses_kept old new kept before after l.0 l.1, l.2)
+leaves_kept old new kept before after InputFailed l = (l.0, uses_kept old new kept before after l.0 l.1, l.2)
+leaves_kept old new kept before after TooLong l = (l.0, l.1, uses_kept old new kept before l.1 l.0 l.2, l.3, l.4, l.5)
+leaves_kept old new kept before after Memory l = (l.0, uses_kept old new kept before after l.0 l.1, l.2)

@@ -50,7 +50,7 @@ cut_fault old mid new held start before after more took same free short fills so
       more = more ++ fills.more;
       took = both;
       next_one = ap (λ n. n + 1) both.commands;
-      fault = inr (((some, subst (HasNo 10) still free, subst (λ l. length l < 4096) still short), none.1), refl);
+      fault = inr (((some, inl (subst (HasNo 10) still free, subst (λ l. length l < 4096) still short)), none.1), refl);
     }
 
 -- the end behind a whole command

@@ -1,5 +1,5 @@
 -- Pieces of a buffer.
-use Rattle.std.proofs.Common.{◌≡◌, ℕ, ◌+◌, ◌-◌, ◌≤◌, List, [], ◌∷◌, ◌++◌, take, drop, length, refl, ap, sym, ◌∙◌, arith, Option, Some, Result, Ok, Err, take_at, drop-drop, length-take, take-append-drop, None, min, true, false}
+use Rattle.std.proofs.Common.{◌≡◌, ℕ, ◌+◌, ◌-◌, ◌≤◌, List, [], ◌∷◌, ◌++◌, take, drop, length, refl, ap, sym, ◌∙◌, subst, arith, Option, Some, Result, Ok, Err, take_at, drop-drop, length-take, take-append-drop, None, min, true, false}
 use Rattle.std.specs.Prelude.{slice_range, OnErr, is_some}
 use Rattle.std.proofs.lemmas.Option.{same_Some}
 use Rattle.std.proofs.Math.Seq.{take-append-add, drop-nil}
@@ -8,7 +8,8 @@ use Rattle.std.specs.Vec.{with_items}
 use Rattle.std.specs.declared.vec.Vec.{Vec}
 use Rattle.std.proofs.lemmas.Grind.{common_steps}
 use Rattle.czi_rig.specs.Source.{Takes}
-use Rattle.czi_script.specs.Pieces.{Added, AtEnd, GoesOn}
+use Rattle.czi_script.specs.Reader.{GoesOn}
+use Rattle.czi_script.specs.Pieces.{Added, AtEnd}
 
 pub on_err : {T E Q : Type 0} (r : Result T E) → Q → OnErr r Q
 on_err (Ok x) q = tt
@@ -113,3 +114,14 @@ pub added_in : {Z : Type 0} (v : Vec ℕ Z) (xs into held : List ℕ) (from to k
 added_in v xs into held from to k n before after order inside long fits all held_is few takes told =
     added xs into (drop k (drop to xs)) held _ from to n before after order inside few held_is
     (ap (λ l. slice_range l from (to + n)) (with_items_is v (take to xs ++ (into ++ drop k (drop to xs))) (written_len xs into to k v.len inside long fits all))) takes told
+
+-- a buffer that is filled from its front
+pub filled_in : {Z : Type 0} (v : Vec ℕ Z) (xs into held : List ℕ) (to k n : ℕ) (before after : Option (List ℕ)) → to ≤ length xs → length into ≡ k → to + k ≤ length xs → v.len ≡ length xs → held ≡ take to xs
+    → n ≤ length into → ((left : List ℕ) → before ≡ Some left → Takes n into left after) → is_some after ≡ is_some before
+    → Added held (take (to + n) (with_items v (take to xs ++ (into ++ drop k (drop to xs)))).items) n before after
+filled_in v xs into held to k n before after inside long fits all held_is few takes told =
+    subst (λ j. Added held (take j (with_items v (take to xs ++ (into ++ drop k (drop to xs)))).items) n before after) (all_of (to + n))
+    (added_in v xs into held 0 to k n before after (omega arith) inside long fits all (held_is ∙ ap (λ j. take j xs) (sym (all_of to))) few takes told)
+  where
+    all_of : (j : ℕ) → j - 0 ≡ j
+    all_of j = omega arith

@@ -1,5 +1,6 @@
 pub mod Script
 pub mod View
 pub mod Reader
+pub mod Filled
 pub mod Pieces
 pub mod Course

@@ -1,11 +1,11 @@
 -- What a reader of scripts shows, and what reading a command does.
-use Rattle.std.specs.Prelude.{◌≡◌, ℕ, ◌+◌, ◌-◌, ◌^◌, ◌<◌, ◌≤◌, List, [], ◌++◌, drop, length, Option, Some, None, option_map, Result, Ok, Err}
+use Rattle.std.specs.Prelude.{◌≡◌, ℕ, ◌+◌, ◌-◌, ◌^◌, ◌<◌, ◌≤◌, List, [], ◌∷◌, ◌++◌, drop, length, Option, Some, None, option_map, Result, Ok, Err}
 use Rattle.std.specs.Option.{ForSome}
 use Rattle.czi_rig.specs.Faults.{Device, input}
 use Rattle.czi_script.specs.declared.command.Command.{Command as CodeCommand}
 use Rattle.czi_script.specs.declared.error.ScriptError.{ScriptError}
 use Rattle.czi_script.specs.declared.error.ScriptError.TheVariants.{Fault, Input as InputFailed, TooLong, Memory}
-use Rattle.czi_script.specs.Script.{HasNo, Next, Ended, Wrong, Beyond, Finds, Spells}
+use Rattle.czi_script.specs.Script.{HasNo, IsUnfinished, Next, Ended, Wrong, Beyond, Finds, Spells}
 use Rattle.czi_script.specs.View.{command_of}
 
 -- the bytes that were taken and are not used yet, how many were taken in all, how many commands were read, and the error
@@ -56,33 +56,43 @@ abbrev pub FindsThere : Reader → List ℕ → Result (Option CodeCommand) Scri
 FindsThere r bytes (Ok found) = FindsSome r bytes found
 FindsThere r bytes (Err error) = FindsError r bytes error
 
--- What is ahead afterwards: what stands behind the spelling of the command that was read, and else all that was. Behind the
--- limit the byte that shows that the input goes on is lost.
-abbrev pub LeavesError : Reader → Reader → List ℕ → Option (List ℕ) → ScriptError → Type 0
-LeavesError old new bytes after (Fault number kind) = after ≡ Some bytes
-LeavesError old new bytes after InputFailed = after ≡ Some bytes
-LeavesError old new bytes after TooLong = after ≡ Some (new.held ++ drop (length new.held + 1) bytes)
-LeavesError old new bytes after Memory = after ≡ Some bytes
+-- The reader used these bytes, which were the first ahead.
+pub record Uses (old new : Reader) (before after : Option (List ℕ)) (bytes : List ℕ) : Type 0 where
+  pub counted : used new ≡ used old + length bytes
+  pub rest : ForSome (ahead old before) (λ all. (more : List ℕ) × (all ≡ bytes ++ more) × (ahead new after ≡ Some more))
+
+-- one byte of the input was taken
+abbrev pub GoesOn : Option (List ℕ) → Option (List ℕ) → Type 0
+GoesOn before after = ForSome before (λ left. (b : ℕ) × (rest : List ℕ) × (left ≡ b ∷ rest) × (after ≡ Some rest))
+
+-- What is ahead afterwards: what stands behind the spelling of the command that was read, and else all that was, but for bytes
+-- of an unfinished command, which may be used. Where the input failed, or goes on behind the limit, each command was read whose
+-- bytes were taken: those that were used, with those that are held, are an unfinished command. Behind the limit the byte that
+-- shows that the input goes on is lost.
+abbrev pub LeavesError : Reader → Reader → Option (List ℕ) → Option (List ℕ) → ScriptError → Type 0
+LeavesError old new before after (Fault number kind) = (gone : List ℕ) × Uses old new before after gone × IsUnfinished gone
+LeavesError old new before after InputFailed = (gone : List ℕ) × Uses old new before after gone × IsUnfinished (gone ++ new.held)
+LeavesError old new before after TooLong = (gone : List ℕ) × (middle : Option (List ℕ)) × Uses old new before middle gone × IsUnfinished (gone ++ new.held) × (new.taken ≡ limit) × GoesOn middle after
+LeavesError old new before after Memory = (gone : List ℕ) × Uses old new before after gone × IsUnfinished gone
 
 abbrev pub LeavesSome : Reader → Reader → List ℕ → Option (List ℕ) → Option CodeCommand → Type 0
 LeavesSome old new bytes after (Some c) = (spelled more : List ℕ) × (bytes ≡ spelled ++ more) × Spells (command_of c) spelled × (after ≡ Some more) × (used new ≡ used old + length spelled)
 LeavesSome old new bytes after None = (after ≡ Some bytes) × (used new ≡ used old)
 
-abbrev pub Leaves : Reader → Reader → List ℕ → Option (List ℕ) → Result (Option CodeCommand) ScriptError → Type 0
-Leaves old new bytes after (Ok found) = LeavesSome old new bytes after found
-Leaves old new bytes after (Err error) = LeavesError old new bytes after error
+abbrev pub Leaves : Reader → Reader → Option (List ℕ) → Option (List ℕ) → Result (Option CodeCommand) ScriptError → Type 0
+Leaves old new before after (Ok found) = ForSome (ahead old before) (λ bytes. LeavesSome old new bytes (ahead new after) found)
+Leaves old new before after (Err error) = LeavesError old new before after error
 
 -- no whole line is among the bytes that are held
 pub record HoldsNoLine (r : Reader) : Type 0 where
   pub short : length r.held < 4096
   pub free : HasNo 10 r.held
 
--- The numbers of commands: one more was read where one is answered, and the number of a fault is the next one. Where the
--- input failed, or goes on behind the limit, each command was read whose bytes were taken.
+-- The numbers of commands: one more was read where one is answered, and the number of a fault is the next one.
 abbrev pub CountsError : Reader → ScriptError → Type 0
 CountsError r (Fault number kind) = number ≡ r.commands + 1
-CountsError r InputFailed = HoldsNoLine r
-CountsError r TooLong = (r.taken ≡ limit) × HoldsNoLine r
+CountsError r InputFailed = Unit {0}
+CountsError r TooLong = Unit {0}
 CountsError r Memory = Unit {0}
 
 abbrev pub CountsSome : Reader → Reader → Option CodeCommand → Type 0

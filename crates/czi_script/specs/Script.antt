@@ -1,40 +1,41 @@
--- Edit scripts: a list of commands, each of which is one line that ends with a line feed. A line is a word and fields
--- ` name=value`, each after one space.
-use Rattle.std.specs.Prelude.{◌≡◌, ◌≢◌, ◌⊎◌, ℕ, ◌+◌, ◌<◌, ◌≤◌, List, [], ◌∷◌, ◌++◌, take, length, Bool, not, ◌==◌, IsTrue, IsFalse, codes, bytes_eq}
+-- Edit scripts: a list of commands, each of which is one line that ends with a line feed. Where a line says so, the bytes of a
+-- payload follow, and one line feed more. A line is a word and fields ` name=value`, each after one space.
+use Rattle.std.specs.Prelude.{◌≡◌, ◌≢◌, ◌⊎◌, ℕ, ◌+◌, ◌^◌, ◌<◌, ◌≤◌, ℤ, List, [], ◌∷◌, ◌++◌, take, drop, length, replicate, Bool, not, ◌==◌, nat_lt, IsTrue, IsFalse, codes, bytes_eq, FitsSigned, Option, Some, None, is_some, if◌then◌else◌}
+use Rattle.std.specs.Int.{w32}
 use Rattle.std.specs.List.{AllByRecursion, list_any, prefix_len}
-use Rattle.czi_format.specs.Entry.{Dim}
-use Rattle.czi_doc.specs.DimText.{IsDimText}
+use Rattle.czi_format.specs.Partial.{◌>>=◌, given}
+use Rattle.czi_format.specs.Entry.{Dim, EntryInfo}
+use Rattle.czi_doc.specs.DimText.{IsDimText, IsNatural, IsNumber}
 use Rattle.czi_script.specs.declared.kind.Kind.{Kind}
 use Rattle.czi_script.specs.declared.kind.Kind.TheVariants.{Cut, Long, Word, Later, Field, Value, Tail}
 
--- What a script asks for: to remove the subblock that these dimensions name, to list the subblocks, to tell of the image, to
--- map its free space, or to count its segments.
+-- What a script asks for: to add a subblock with these metadata, pixel data and attachment, or to put it in the place of the
+-- one that its dimensions name; to remove the subblock that these dimensions name, to list the subblocks, to tell of the
+-- image, to map its free space, or to count its segments. Nothing is asked for by a command with a payload of which a piece
+-- has so many bytes, which is past this limit.
 pub data Command : Type 0 where
+  Add : EntryInfo → List ℕ → List ℕ → List ℕ → Command
+  Replace : EntryInfo → List ℕ → List ℕ → List ℕ → Command
   Remove : List Dim → Command
   Listing : Command
   Info : Command
   Map : Command
   Check : Command
+  Past : ℕ → ℕ → Command
+
+-- whether a subblock is added, or put in the place of another
+pub data Verb : Type 0 where
+  Adds : Verb
+  Replaces : Verb
+
+-- What a line says: a whole command, or a subblock, and how many bytes of metadata, pixel data and attachment follow.
+pub data Head : Type 0 where
+  Alone : Command → Head
+  Tile : Verb → EntryInfo → ℕ → ℕ → ℕ → Head
 
 -- none of the bytes is b
 abbrev pub HasNo : ℕ → List ℕ → Type 0
 HasNo b bytes = AllByRecursion (λ x. x ≢ b) bytes
-
--- The line of a command, without its line feed. A dimension text has several spellings of one list of dimensions, and so
--- does the command.
-abbrev pub IsLine : Command → List ℕ → Type 0
-IsLine (Remove dims) line = (text : List ℕ) × (line ≡ codes "remove dims=" ++ text) × IsDimText text dims
-IsLine Listing line = line ≡ codes "list"
-IsLine Info line = line ≡ codes "info"
-IsLine Map line = line ≡ codes "map"
-IsLine Check line = line ≡ codes "check"
-
--- The bytes spell the command: its line, of at most 4096 bytes with the line feed.
-pub record Spells (c : Command) (bytes : List ℕ) : Type 0 where
-  pub line : List ℕ
-  pub whole : bytes ≡ line ++ 10 ∷ []
-  pub is_line : IsLine c line
-  pub short : length bytes ≤ 4096
 
 -- the first line of the bytes ends with a line feed among their first 4096
 pub record FirstLine (line bytes : List ℕ) : Type 0 where
@@ -47,48 +48,251 @@ pub record FirstLine (line bytes : List ℕ) : Type 0 where
 abbrev pub len_before : ℕ → List ℕ → ℕ
 len_before b bytes = prefix_len (λ x. not (x == b)) bytes
 
--- the bytes of a line up to its first space, or all of them
+-- the bytes of a line up to its first space, or all of them, and the others
 abbrev pub word : List ℕ → List ℕ
 word line = take (len_before 32 line) line
 
--- the command words of lines without fields, those that are built, and those of the format that are not built yet
-abbrev pub bare_words : List (List ℕ)
-bare_words = codes "list" ∷ codes "info" ∷ codes "map" ∷ codes "check" ∷ []
+abbrev pub behind_word : List ℕ → List ℕ
+behind_word line = drop (len_before 32 line) line
 
-abbrev pub built_words : List (List ℕ)
-built_words = codes "remove" ∷ bare_words
+-- A field of a line: what stands in front of its value, and what is its value where it is left out, if it may be.
+pub record FieldForm : Type 0 where
+  pub mark : List ℕ
+  pub missing : Option (List ℕ)
+
+abbrev pub needed : List ℕ → FieldForm
+needed mark = record { mark = mark; missing = None }
+
+abbrev pub zero_if_missing : List ℕ → FieldForm
+zero_if_missing mark = record { mark = mark; missing = Some (codes "0") }
+
+-- a line: its word, and its fields in their order
+pub record LineForm : Type 0 where
+  pub name : List ℕ
+  pub fields : List FieldForm
+
+abbrev pub tile_fields : List FieldForm
+tile_fields = needed (codes " pixel=") ∷ zero_if_missing (codes " comp=") ∷ zero_if_missing (codes " pyramid=") ∷ needed (codes " dims=") ∷ needed (codes " meta=") ∷ needed (codes " data=") ∷ needed (codes " att=") ∷ []
+
+-- the lines that are built, and the words of the format's other lines
+abbrev pub lines : List LineForm
+lines = record { name = codes "add"; fields = tile_fields }
+    ∷ record { name = codes "replace"; fields = tile_fields }
+    ∷ record { name = codes "remove"; fields = needed (codes " dims=") ∷ [] }
+    ∷ record { name = codes "list"; fields = [] }
+    ∷ record { name = codes "info"; fields = [] }
+    ∷ record { name = codes "map"; fields = [] }
+    ∷ record { name = codes "check"; fields = [] }
+    ∷ []
 
 abbrev pub later_words : List (List ℕ)
-later_words = codes "add" ∷ codes "replace" ∷ codes "attach" ∷ codes "reattach" ∷ codes "detach" ∷ codes "meta" ∷ codes "undo" ∷ codes "repack" ∷ codes "region" ∷ []
+later_words = codes "attach" ∷ codes "reattach" ∷ codes "detach" ∷ codes "meta" ∷ codes "undo" ∷ codes "repack" ∷ codes "region" ∷ []
 
 abbrev pub is_among : List (List ℕ) → List ℕ → Bool
 is_among words w = list_any (bytes_eq w) words
 
--- The fields of a line are right: `remove` has one, dims; a bare word has none. No value has a space.
-abbrev pub HasFields : List ℕ → Type 0
-HasFields line = ((value : List ℕ) × (line ≡ codes "remove dims=" ++ value) × HasNo 32 value) ⊎ IsTrue (is_among bare_words line)
+-- the fields of the line with this word
+abbrev pub fields_for : List LineForm → List ℕ → Option (List FieldForm)
+fields_for [] w = None
+fields_for (l ∷ ls) w = if bytes_eq w l.name then Some l.fields else fields_for ls w
 
--- Why a whole line is no command: its word is none of the format's or isn't built yet, its fields aren't right, or a value
--- of them isn't of its form.
+-- a value, and what stands behind it: a value ends in front of the next space
+pub record Split : Type 0 where
+  pub value : List ℕ
+  pub rest : List ℕ
+
+abbrev pub value_at : List ℕ → List ℕ → Option Split
+value_at mark text = given (bytes_eq (take (length mark) text) mark) (record { value = word (drop (length mark) text); rest = behind_word (drop (length mark) text) })
+
+-- The values of these fields, where the text is these fields and nothing else.
+abbrev pub with_value : List ℕ → Option (List (List ℕ)) → Option (List (List ℕ))
+with_value value values = values >>= λ vs. Some (value ∷ vs)
+
+abbrev pub from_field : Option Split → Option (List ℕ) → (List ℕ → Option (List (List ℕ))) → List ℕ → Option (List (List ℕ))
+from_field (Some s) missing others text = with_value s.value (others s.rest)
+from_field None (Some value) others text = with_value value (others text)
+from_field None None others text = None
+
+abbrev pub values_at : List FieldForm → List ℕ → Option (List (List ℕ))
+values_at [] text = given (length text == 0) []
+values_at (f ∷ fs) text = from_field (value_at f.mark text) f.missing (values_at fs) text
+
+abbrev pub values_of : List ℕ → Option (List (List ℕ))
+values_of line = fields_for lines (word line) >>= λ fields. values_at fields (behind_word line)
+
+-- a signed number of 32 bits, and one of 64 bits without a sign
+abbrev pub IsSigned : List ℕ → ℤ → Type 0
+IsSigned text n = IsNumber text n × FitsSigned w32 n
+
+abbrev pub IsSize : List ℕ → ℕ → Type 0
+IsSize text n = IsNatural text n × (n < 2 ^ 64)
+
+-- The values of a subblock's line. The spare bytes of its entry are zero.
+pub record IsTile (info : EntryInfo) (meta pixels tail : ℕ) (values : List (List ℕ)) : Type 0 where
+  pub pixel_text : List ℕ
+  pub comp_text : List ℕ
+  pub pyramid_text : List ℕ
+  pub dims_text : List ℕ
+  pub meta_text : List ℕ
+  pub data_text : List ℕ
+  pub att_text : List ℕ
+  pub texts : values ≡ pixel_text ∷ comp_text ∷ pyramid_text ∷ dims_text ∷ meta_text ∷ data_text ∷ att_text ∷ []
+  pub is_pixel : IsSigned pixel_text info.pixel
+  pub is_comp : IsSigned comp_text info.compression
+  pub is_pyramid : IsNatural pyramid_text info.pyramid × (info.pyramid < 2 ^ 8)
+  pub is_dims : IsDimText dims_text info.dims
+  pub is_meta : IsSize meta_text meta
+  pub is_data : IsSize data_text pixels
+  pub is_att : IsSize att_text tail
+  pub spare : info.spare ≡ replicate 5 0
+
+-- what each line says, by its word and its values
+abbrev pub tile_word : Verb → List ℕ
+tile_word Adds = codes "add"
+tile_word Replaces = codes "replace"
+
+abbrev pub head_word : Head → List ℕ
+head_word (Tile verb info meta pixels tail) = tile_word verb
+head_word (Alone (Remove dims)) = codes "remove"
+head_word (Alone Listing) = codes "list"
+head_word (Alone Info) = codes "info"
+head_word (Alone Map) = codes "map"
+head_word (Alone Check) = codes "check"
+head_word (Alone (Add info meta pixels tail)) = []
+head_word (Alone (Replace info meta pixels tail)) = []
+head_word (Alone (Past len limit)) = []
+
+abbrev pub AreValues : Head → List (List ℕ) → Type 0
+AreValues (Tile verb info meta pixels tail) values = IsTile info meta pixels tail values
+AreValues (Alone (Remove dims)) values = (text : List ℕ) × (values ≡ text ∷ []) × IsDimText text dims
+AreValues (Alone Listing) values = values ≡ []
+AreValues (Alone Info) values = values ≡ []
+AreValues (Alone Map) values = values ≡ []
+AreValues (Alone Check) values = values ≡ []
+AreValues (Alone (Add info meta pixels tail)) values = ⊥
+AreValues (Alone (Replace info meta pixels tail)) values = ⊥
+AreValues (Alone (Past len limit)) values = ⊥
+
+-- The line, without its line feed, says this. A number or a dimension text may have several spellings, and so does the line.
+pub record IsHead (head : Head) (line : List ℕ) : Type 0 where
+  pub values : List (List ℕ)
+  pub named : word line ≡ head_word head
+  pub given_so : values_of line ≡ Some values
+  pub are : AreValues head values
+
+-- a piece of a payload: how many bytes it has, and how many it may have
+pub record Piece : Type 0 where
+  pub len : ℕ
+  pub limit : ℕ
+
+abbrev pub text_limit : ℕ
+text_limit = 2 ^ 24
+
+abbrev pub data_limit : ℕ
+data_limit = 2 ^ 26
+
+abbrev pub pieces : Head → List Piece
+pieces (Alone c) = []
+pieces (Tile verb info meta pixels tail) = record { len = meta; limit = text_limit } ∷ record { len = pixels; limit = data_limit } ∷ record { len = tail; limit = data_limit } ∷ []
+
+abbrev pub total : List Piece → ℕ
+total [] = 0
+total (p ∷ ps) = p.len + total ps
+
+abbrev pub payload_len : Head → ℕ
+payload_len head = total (pieces head)
+
+-- what stands behind the line and its payload
+abbrev pub close : Head → List ℕ
+close (Alone c) = []
+close (Tile verb info meta pixels tail) = 10 ∷ []
+
+-- how many bytes stand behind the line and its line feed
+abbrev pub rest_len : Head → ℕ
+rest_len head = payload_len head + length (close head)
+
+-- the first piece that is past its limit
+abbrev pub first_past : List Piece → Option Piece
+first_past [] = None
+first_past (p ∷ ps) = if nat_lt p.limit p.len then Some p else first_past ps
+
+-- the command, by the payload
+abbrev pub with_contents : Head → List ℕ → Command
+with_contents (Alone c) payload = c
+with_contents (Tile Adds info meta pixels tail) payload = Add info (take meta payload) (take pixels (drop meta payload)) (drop (meta + pixels) payload)
+with_contents (Tile Replaces info meta pixels tail) payload = Replace info (take meta payload) (take pixels (drop meta payload)) (drop (meta + pixels) payload)
+
+abbrev pub or_past : Option Piece → Command → Command
+or_past None c = c
+or_past (Some p) c = Past p.len p.limit
+
+abbrev pub command_with : Head → List ℕ → Command
+command_with head payload = or_past (first_past (pieces head)) (with_contents head payload)
+
+-- The bytes spell the command: its line, of at most 4096 bytes with the line feed, its payload, and what closes that.
+pub record Spells (c : Command) (bytes : List ℕ) : Type 0 where
+  pub line : List ℕ
+  pub head : Head
+  pub payload : List ℕ
+  pub first : FirstLine line bytes
+  pub is_head : IsHead head line
+  pub sized : length payload ≡ payload_len head
+  pub behind : first.more ≡ payload ++ close head
+  pub tells : c ≡ command_with head payload
+
+-- the word of a line is one of those that are built, and its fields are right
+abbrev pub is_built : List ℕ → Bool
+is_built line = is_some (fields_for lines (word line))
+
+abbrev pub has_fields : List ℕ → Bool
+has_fields line = is_some (values_of line)
+
+-- Why a whole line is none: its word is none of the format's or isn't built yet, its fields aren't right, or a value of them
+-- isn't of its form.
 abbrev pub IsWrong : Kind → List ℕ → Type 0
 IsWrong Cut line = ⊥
 IsWrong Long line = ⊥
-IsWrong Word line = IsFalse (is_among built_words (word line)) × IsFalse (is_among later_words (word line))
+IsWrong Word line = IsFalse (is_built line) × IsFalse (is_among later_words (word line))
 IsWrong Later line = IsTrue (is_among later_words (word line))
-IsWrong Field line = IsTrue (is_among built_words (word line)) × (HasFields line → ⊥)
-IsWrong Value line = HasFields line × ((c : Command) → IsLine c line → ⊥)
+IsWrong Field line = IsTrue (is_built line) × IsFalse (has_fields line)
+IsWrong Value line = IsTrue (has_fields line) × ((head : Head) → IsHead head line → ⊥)
 IsWrong Tail line = ⊥
 
--- Why the bytes begin with no command: they end within a line, the line is too long, or it is none. A line is read whole
--- before its word is looked at.
+-- The bytes are the beginning of a line, or a whole line and less than what follows it.
+pub record BeginsPayload (bytes : List ℕ) : Type 0 where
+  pub line : List ℕ
+  pub head : Head
+  pub first : FirstLine line bytes
+  pub is_head : IsHead head line
+  pub less : length first.more < rest_len head
+
+abbrev pub IsUnfinished : List ℕ → Type 0
+IsUnfinished bytes = (HasNo 10 bytes × (length bytes < 4096)) ⊎ BeginsPayload bytes
+
+-- behind a payload stands another byte than a line feed
+pub record EndsOtherwise (bytes : List ℕ) : Type 0 where
+  pub line : List ℕ
+  pub head : Head
+  pub payload : List ℕ
+  pub byte : ℕ
+  pub more : List ℕ
+  pub first : FirstLine line bytes
+  pub is_head : IsHead head line
+  pub sized : length payload ≡ payload_len head
+  pub closed : close head ≡ 10 ∷ []
+  pub behind : first.more ≡ payload ++ byte ∷ more
+  pub other : byte ≢ 10
+
+-- Why the bytes begin with no command: they end within one, the line is too long, it is wrong, or the payload ends otherwise.
+-- A line is read whole before its word is looked at, and before its payload. A wrong line has none.
 abbrev pub IsFault : Kind → List ℕ → Type 0
-IsFault Cut bytes = (bytes ≢ []) × HasNo 10 bytes × (length bytes < 4096)
+IsFault Cut bytes = (bytes ≢ []) × IsUnfinished bytes
 IsFault Long bytes = (4096 ≤ length bytes) × HasNo 10 (take 4096 bytes)
 IsFault Word bytes = (line : List ℕ) × FirstLine line bytes × IsWrong Word line
 IsFault Later bytes = (line : List ℕ) × FirstLine line bytes × IsWrong Later line
 IsFault Field bytes = (line : List ℕ) × FirstLine line bytes × IsWrong Field line
 IsFault Value bytes = (line : List ℕ) × FirstLine line bytes × IsWrong Value line
-IsFault Tail bytes = ⊥
+IsFault Tail bytes = EndsOtherwise bytes
 
 -- How a script ends: well, or at a fault, with the number of the command and the kind.
 pub data End : Type 0 where
@@ -131,9 +335,9 @@ abbrev pub Shows : ℕ → Kind → List ℕ → Type 0
 Shows room kind bytes = ((length bytes ≤ room) × IsFault kind bytes) ⊎ ((more : List ℕ) → IsFault kind (take room bytes ++ more))
 
 -- The command's spelling is among these bytes, or nothing is left, or the fault shows in them. They don't suffice where more
--- follow, and they are less than a line.
+-- follow, and they are an unfinished command.
 abbrev pub Finds : ℕ → List ℕ → Found → Type 0
 Finds room bytes (Next c) = (spelled more : List ℕ) × (bytes ≡ spelled ++ more) × Spells c spelled × (length spelled ≤ room)
 Finds room bytes Ended = bytes ≡ []
 Finds room bytes (Wrong kind) = Shows room kind bytes
-Finds room bytes Beyond = (room < length bytes) × HasNo 10 (take room bytes) × (room < 4096)
+Finds room bytes Beyond = (room < length bytes) × IsUnfinished (take room bytes)

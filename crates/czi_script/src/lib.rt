@@ -3,6 +3,9 @@
 
 mod command;
 mod error;
+mod fields;
+mod filling;
+mod head;
 mod kind;
 mod laws;
 mod lines;

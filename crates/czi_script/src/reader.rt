@@ -1,16 +1,23 @@
 //! Scripts, read command by command.
 
-ghost use Rattle.std.specs.Prelude.{◌≡◌, ◌≢◌, ◌+◌, ◌<◌, ◌≤◌, [], length, is_some, IfOk, IfErr, IfSome, OnOk};
+ghost use Rattle.std.specs.Prelude.{◌≡◌, ◌≢◌, ◌+◌, ◌^◌, ◌<◌, ◌≤◌, ℕ, List, [], ◌∷◌, length, is_some, IfOk, IfErr, IfSome, OnOk};
 ghost use Rattle.std.specs.Option.{ForSome};
 ghost use Rattle.czi_rig.specs.Faults.{Counted, fault_at, is_at_input};
 ghost use Rattle.czi_script.specs.Reader.{Reader, IsReader, unused, ahead, FindsThere, Leaves, Counts, TakesFirst, kept, lost, script_device};
-ghost use Rattle.czi_script.specs.Pieces.{IsFront, AtEnd, Fills, FillStops, Lines, LineStops, UsesLine, RefusesLine, EndsLine};
+ghost use Rattle.czi_doc.specs.View.{bytes_of};
+ghost use Rattle.czi_script.specs.Script.{payload_len};
+ghost use Rattle.czi_script.specs.View.{head_of, tile_of};
+ghost use Rattle.czi_script.specs.Pieces.{IsFront, AtEnd, Fills, FillStops, Lines, LineStops, UsesLine, RefusesLine, EndsLine, TakesSome, Passed, Interrupted, Contents, FeedStops, Finished, PayloadStops};
 
 use crate::command::Command;
 use crate::error::ScriptError;
+use crate::fields::Refusal;
+use crate::filling::Filling;
+use crate::head::{Head, Tile};
 use crate::kind::Kind;
-use crate::lines::{Front, Refusal, command_in, front_of};
+use crate::lines::{Front, front_of, head_in};
 use crate::window::{SIZE, Window};
+use czi_doc::Bytes;
 use czi_rig::Source;
 use std::alloc::{AllocError, Global};
 use std::marker::Model;
@@ -19,7 +26,7 @@ use std::marker::Model;
 const LIMIT: u64 = 1 << 40;
 
 /// Reads a script from an input, command by command. It keeps a buffer of 64 KiB, and takes as many bytes at once as
-/// have room there.
+/// have room there. What is not there yet of a payload goes straight into the buffers of the command.
 #[derive(Drop)]
 pub struct ScriptReader {
     window: Window,
@@ -91,7 +98,7 @@ impl ScriptReader {
         self.error = Some(error);
     }
 
-    /// TakesFirst more bytes. False at the end of the input.
+    /// Takes more bytes. False at the end of the input.
     fn fill<S: Source>(&mut self, input: &mut S) -> Result<bool, ScriptError>
         requires { length self.old.held < 4096 }
         ensures fills { IfOk result (Fills self.old self.new (S.input input.old).left (S.input input.new).left) }
@@ -129,7 +136,7 @@ impl ScriptReader {
         }
     }
 
-    /// TakesFirst bytes until a whole line stands in front, and answers how long it is without its line feed. None at
+    /// Takes bytes until a whole line stands in front, and answers how long it is without its line feed. None at
     /// the end of the input behind a whole line.
     fn line<S: Source>(&mut self, input: &mut S) -> Result<Option<usize>, ScriptError>
         ensures lines { IfOk result (Lines self.old self.new (S.input input.old).left (S.input input.new).left) }
@@ -152,8 +159,8 @@ impl ScriptReader {
         }
     }
 
-    /// The command in front, by its line of so many bytes.
-    fn command(&mut self, len: usize) -> Result<Command, ScriptError>
+    /// What the line in front says, by its bytes without the line feed. The line is used.
+    fn head(&mut self, len: usize) -> Result<Head, ScriptError>
         requires { IsFront self.old.held (Front.Line len) }
         ensures sound { IsReader self.new }
         ensures ok { IfOk result (UsesLine self.old self.new len) }
@@ -161,21 +168,173 @@ impl ScriptReader {
         ensures own { fault_at script_device result ≡ None }
     {
         let line = &self.window.held()[..len];
-        match command_in(self.alloc, line) {
-            Ok(command) => {
+        match head_in(self.alloc, line) {
+            Ok(head) => {
                 self.window.use_front(len + 1);
-                self.commands += 1;
-                Ok(command)
+                Ok(head)
             }
             Err(Refusal::Kind(kind)) => Err(self.fault(kind)),
             Err(Refusal::Memory) => Err(ScriptError::Memory),
         }
     }
 
+    /// Takes bytes of the input straight into the buffer of a piece, where none is held.
+    fn fill_piece<S: Source>(
+        &mut self,
+        input: &mut S,
+        piece: &mut Filling,
+    ) -> Result<(), ScriptError>
+        requires none { self.old.held ≡ [] }
+        requires room { length piece.old.bytes < piece.old.size }
+        ensures some { OnOk result (TakesSome self.old self.new (S.input input.old).left (S.input input.new).left piece.old.bytes piece.new.bytes) }
+        ensures size { piece.new.size ≡ piece.old.size }
+        ensures held { self.new.held ≡ [] }
+        ensures sound { IsReader self.new }
+        ensures stops { IfErr result (Interrupted self.old self.new (S.input input.old).left (S.input input.new).left 0) }
+        ensures told { is_some (S.input input.new).left ≡ is_some (S.input input.old).left }
+        ensures later { (S.input input.old).faults ≤ (S.input input.new).faults }
+        ensures cause { Counted (is_at_input (fault_at script_device result)) (S.input input.old).faults (S.input input.new).faults }
+    {
+        let room = LIMIT - self.taken;
+        if room == 0 {
+            ends(input)?;
+            return Err(self.fault(Kind::Cut));
+        }
+        match piece.fill(input, room) {
+            Ok(0) => Err(self.fault(Kind::Cut)),
+            Ok(count) => {
+                self.taken += count as u64;
+                Ok(())
+            }
+            Err(_) => Err(ScriptError::Input),
+        }
+    }
+
+    /// The next so many bytes. Those that aren't held yet are taken straight into their buffer.
+    fn piece<S: Source>(&mut self, input: &mut S, size: u64) -> Result<Bytes, ScriptError>
+        requires { size < 2 ^ 63 }
+        ensures ok { IfOk result (λ b. Passed self.old self.new (S.input input.old).left (S.input input.new).left (bytes_of b) × (length (bytes_of b) ≡ size)) }
+        ensures sound { IsReader self.new }
+        ensures stops { IfErr result (Interrupted self.old self.new (S.input input.old).left (S.input input.new).left size) }
+        ensures told { is_some (S.input input.new).left ≡ is_some (S.input input.old).left }
+        ensures later { (S.input input.old).faults ≤ (S.input input.new).faults }
+        ensures cause { Counted (is_at_input (fault_at script_device result)) (S.input input.old).faults (S.input input.new).faults }
+    {
+        let Ok(mut piece) = Filling::new(self.alloc, size as usize) else {
+            return Err(ScriptError::Memory);
+        };
+        let front = self.window.held().len().min(size as usize);
+        piece.add(&self.window.held()[..front]);
+        self.window.use_front(front);
+        while piece.room() > 0 {
+            self.fill_piece(input, &mut piece)?;
+        }
+        Ok(piece.finish())
+    }
+
+    /// Takes so many bytes and keeps none.
+    fn skip<S: Source>(&mut self, input: &mut S, count: u128) -> Result<(), ScriptError>
+        ensures ok { OnOk result ((bytes : List ℕ) × Passed self.old self.new (S.input input.old).left (S.input input.new).left bytes × (length bytes ≡ count)) }
+        ensures sound { IsReader self.new }
+        ensures stops { IfErr result (Interrupted self.old self.new (S.input input.old).left (S.input input.new).left count) }
+        ensures told { is_some (S.input input.new).left ≡ is_some (S.input input.old).left }
+        ensures later { (S.input input.old).faults ≤ (S.input input.new).faults }
+        ensures cause { Counted (is_at_input (fault_at script_device result)) (S.input input.old).faults (S.input input.new).faults }
+    {
+        let mut left = count;
+        loop {
+            let front = left.min(self.window.held().len() as u128);
+            self.window.use_front(front as usize);
+            left -= front;
+            if left == 0 {
+                return Ok(());
+            }
+            if !self.fill(input)? {
+                return Err(self.fault(Kind::Cut));
+            }
+        }
+    }
+
+    /// The payload of a subblock's line, as a command. Where a piece is past its limit none is kept.
+    fn contents<S: Source>(&mut self, input: &mut S, tile: Tile) -> Result<Command, ScriptError>
+        ensures ok { IfOk result (Contents self.old self.new (S.input input.old).left (S.input input.new).left (tile_of tile)) }
+        ensures sound { IsReader self.new }
+        ensures stops { IfErr result (Interrupted self.old self.new (S.input input.old).left (S.input input.new).left (payload_len (tile_of tile))) }
+        ensures told { is_some (S.input input.new).left ≡ is_some (S.input input.old).left }
+        ensures later { (S.input input.old).faults ≤ (S.input input.new).faults }
+        ensures cause { Counted (is_at_input (fault_at script_device result)) (S.input input.old).faults (S.input input.new).faults }
+    {
+        if let Some((len, limit)) = tile.past() {
+            self.skip(input, tile.len())?;
+            return Ok(Command::Long { len, limit });
+        }
+        let meta = self.piece(input, tile.meta)?;
+        let pixels = self.piece(input, tile.pixels)?;
+        let tail = self.piece(input, tile.tail)?;
+        Ok(tile.command(meta, pixels, tail))
+    }
+
+    /// Sees that a byte is held.
+    fn some<S: Source>(&mut self, input: &mut S) -> Result<(), ScriptError>
+        ensures ok { OnOk result (Passed self.old self.new (S.input input.old).left (S.input input.new).left []) }
+        ensures some { OnOk result (self.new.held ≢ []) }
+        ensures sound { IsReader self.new }
+        ensures stops { IfErr result (Interrupted self.old self.new (S.input input.old).left (S.input input.new).left 0) }
+        ensures told { is_some (S.input input.new).left ≡ is_some (S.input input.old).left }
+        ensures later { (S.input input.old).faults ≤ (S.input input.new).faults }
+        ensures cause { Counted (is_at_input (fault_at script_device result)) (S.input input.old).faults (S.input input.new).faults }
+    {
+        if !self.window.held().is_empty() {
+            return Ok(());
+        }
+        if self.fill(input)? {
+            Ok(())
+        } else {
+            Err(self.fault(Kind::Cut))
+        }
+    }
+
+    /// The line feed behind a payload.
+    fn feed<S: Source>(&mut self, input: &mut S) -> Result<(), ScriptError>
+        ensures ok { OnOk result (Passed self.old self.new (S.input input.old).left (S.input input.new).left (10 ∷ [])) }
+        ensures sound { IsReader self.new }
+        ensures stops { IfErr result (FeedStops self.old self.new (S.input input.old).left (S.input input.new).left) }
+        ensures told { is_some (S.input input.new).left ≡ is_some (S.input input.old).left }
+        ensures later { (S.input input.old).faults ≤ (S.input input.new).faults }
+        ensures cause { Counted (is_at_input (fault_at script_device result)) (S.input input.old).faults (S.input input.new).faults }
+    {
+        self.some(input)?;
+        if self.window.held().first() != Some(&b'\n') {
+            return Err(self.fault(Kind::Tail));
+        }
+        self.window.use_front(1);
+        Ok(())
+    }
+
+    /// The command of a line that is used, with its payload.
+    fn command<S: Source>(&mut self, input: &mut S, head: Head) -> Result<Command, ScriptError>
+        requires sound { IsReader self.old }
+        ensures ok { IfOk result (Finished self.old self.new (S.input input.old).left (S.input input.new).left (head_of head)) }
+        ensures sound { IsReader self.new }
+        ensures stops { IfErr result (PayloadStops self.old self.new (S.input input.old).left (S.input input.new).left (head_of head)) }
+        ensures told { is_some (S.input input.new).left ≡ is_some (S.input input.old).left }
+        ensures later { (S.input input.old).faults ≤ (S.input input.new).faults }
+        ensures cause { Counted (is_at_input (fault_at script_device result)) (S.input input.old).faults (S.input input.new).faults }
+    {
+        match head {
+            Head::Alone(command) => Ok(command),
+            Head::Tile(tile) => {
+                let command = self.contents(input, tile)?;
+                self.feed(input)?;
+                Ok(command)
+            }
+        }
+    }
+
     /// The next command, of a reader without an error.
     fn read<S: Source>(&mut self, input: &mut S) -> Result<Option<Command>, ScriptError>
         ensures finds { ForSome (ahead self.old (S.input input.old).left) (λ bytes. FindsThere self.old bytes result) }
-        ensures leaves { ForSome (ahead self.old (S.input input.old).left) (λ bytes. Leaves self.old self.new bytes (ahead self.new (S.input input.new).left) result) }
+        ensures leaves { Leaves self.old self.new (S.input input.old).left (S.input input.new).left result }
         ensures takes { TakesFirst self.old self.new (S.input input.old).left (S.input input.new).left (lost result) }
         ensures counts { Counts self.old self.new result }
         ensures sound { IsReader self.new }
@@ -184,13 +343,13 @@ impl ScriptReader {
         ensures later { (S.input input.old).faults ≤ (S.input input.new).faults }
         ensures cause { Counted (is_at_input (fault_at script_device result)) (S.input input.old).faults (S.input input.new).faults }
     {
-        match self.line(input)? {
-            Some(len) => match self.command(len) {
-                Ok(command) => Ok(Some(command)),
-                Err(error) => Err(error),
-            },
-            None => Ok(None),
-        }
+        let Some(len) = self.line(input)? else {
+            return Ok(None);
+        };
+        let head = self.head(len)?;
+        let command = self.command(input, head)?;
+        self.commands += 1;
+        Ok(Some(command))
     }
 
     /// The next command of the script, or None where the input is at its end behind a whole command.
@@ -198,11 +357,11 @@ impl ScriptReader {
     /// # Errors
     ///
     /// `Fault` where the bytes ahead begin with no command, `Input` where a call of the input failed, `TooLong` where
-    /// 2^40 bytes of it did not suffice and it goes on, or `Memory`. Each later call then answers the same, and takes
-    /// nothing.
+    /// 2^40 bytes of it did not suffice and it goes on, or `Memory`. The bytes of an unfinished command may be gone
+    /// then. Each later call answers the same, and takes nothing.
     pub fn next<S: Source>(&mut self, input: &mut S) -> Result<Option<Command>, ScriptError>
         ensures finds { self.old.error ≡ None → ForSome (ahead self.old (S.input input.old).left) (λ bytes. FindsThere self.old bytes result) }
-        ensures leaves { self.old.error ≡ None → ForSome (ahead self.old (S.input input.old).left) (λ bytes. Leaves self.old self.new bytes (ahead self.new (S.input input.new).left) result) }
+        ensures leaves { self.old.error ≡ None → Leaves self.old self.new (S.input input.old).left (S.input input.new).left result }
         ensures takes { self.old.error ≡ None → TakesFirst self.old self.new (S.input input.old).left (S.input input.new).left (lost result) }
         ensures counts { self.old.error ≡ None → Counts self.old self.new result }
         ensures cause { self.old.error ≡ None → Counted (is_at_input (fault_at script_device result)) (S.input input.old).faults (S.input input.new).faults }

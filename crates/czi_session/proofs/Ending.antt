@@ -7,7 +7,7 @@ use Rattle.czi_rig.specs.declared.rig.Rig.{Ghosts}
 use Rattle.czi_rig.specs.Disk.{Disk}
 use Rattle.czi_rig.specs.State.{State, Instant}
 use Rattle.czi_rig.specs.Faults.{Device, Faults, FaultsWith}
-use Rattle.czi_rig.specs.Moments.{OnlyNow, Throughout}
+use Rattle.czi_rig.specs.Moments.{OnlyNow, Throughout, FromSomeMoment}
 use Rattle.czi_rig.specs.Spans.{InSpans}
 use Rattle.czi_rig.proofs.Runs.{joined, weaker}
 use Rattle.czi_rig.proofs.Spans.{during, spans_then}
@@ -20,7 +20,7 @@ use Rattle.czi_session.specs.declared.stop.Stop.TheVariants.{Script, Image, Jour
 use Rattle.czi_session.specs.declared.stop.Ended.{Ended}
 use Rattle.czi_session.specs.declared.stop.Ended.TheVariants.{Done, Refused, Stopped}
 use Rattle.czi_session.specs.Text.{fault_line, last_text}
-use Rattle.czi_session.specs.Course.{AlikeFrom, AtEveryMoment, Model, OnceAlike, OnceDurable, Stands, Open, WhileSaid, WithinStep, OpensToPrefix, ReadsToPrefix, RestsNow, Runs, Sealed, Sealing, Unsealed, From, Begins, Starts, state_after, replies}
+use Rattle.czi_session.specs.Course.{AlikeFrom, AtEveryMoment, Model, OnceAlike, OnceDurable, Stands, Open, WhileSaid, WithinStep, OpensToPrefix, ReadsToPrefix, RestsNow, Runs, Sealed, Sealing, Unsealed, Begins, Starts, state_after, replies}
 use Rattle.czi_session.specs.Stops.{EndsAlone, IsFile, end_device}
 use Rattle.czi_session.specs.Ends.{MayBeSealed, Whole, StopsAt, RunStops, TextStops, OneStops, OneEnds, OpeningEnds, EndsSo, Quiet, Answers}
 use Rattle.czi_session.proofs.Course.{prefix_first, reads_between, reads_step, reads_last}
@@ -39,10 +39,10 @@ module _ (m : Model) (something : (s : m.Document) (c : Command) → 0 < length 
       (subst (λ (x : List ℕ). WhileSaid m (state_after m start cs) (before ++ concat (replies m start cs)) x image journal said) (sym (ap (λ e. last_text e) is)) p)
 
 module _ {D : Type 0} (rig : Ghosts D) where
-  pub from_weaker : {old new : D} {P Q : Instant} → ((image journal said : List ℕ) → P image journal said → Q image journal said) → From rig old new P → From rig old new Q
+  pub from_weaker : {old new : D} {P Q : Instant} → ((image journal said : List ℕ) → P image journal said → Q image journal said) → FromSomeMoment rig old new P → FromSomeMoment rig old new Q
   from_weaker h f = record { then = f.then; before = f.before; after = weaker rig h f.after; always = λ i j o left. h i j o (f.always i j o left) }
 
-  pub from_more : {old mid new : D} {P : Instant} → From rig old mid P → Throughout rig mid new P → From rig old new P
+  pub from_more : {old mid new : D} {P : Instant} → FromSomeMoment rig old mid P → Throughout rig mid new P → FromSomeMoment rig old new P
   from_more f more = record {
     then = f.then;
     before = f.before;
@@ -53,7 +53,7 @@ module _ {D : Type 0} (rig : Ghosts D) where
 module _ {D : Type 0} (rig : Ghosts D) (m : Model) where
   -- a run over files that were opened
   pub runs : {old opened new : D} (only : OnlyNow rig) (something : (s : m.Document) (c : Command) → 0 < length (m.reply s c)) (on : Disk → Disk → m.Document → Type 0) → RestsNow m on
-      → (s : m.Document) (cs : List Command) (last said : List ℕ) → From rig old opened (Open m s said) → Stands m on (rig.state opened) said s → Throughout rig opened new (ReadsToPrefix m s cs last said)
+      → (s : m.Document) (cs : List Command) (last said : List ℕ) → FromSomeMoment rig old opened (Open m s said) → Stands m on (rig.state opened) said s → Throughout rig opened new (ReadsToPrefix m s cs last said)
       → Runs rig old new m s cs last said
   runs {opened = opened} only something on rests_now s cs last said opening h run = record {
     opened = opened;

@@ -4,10 +4,10 @@ use Rattle.std.proofs.lemmas.List.{append-nil}
 use Rattle.czi_rig.specs.declared.rig.Rig.{Ghosts}
 use Rattle.czi_rig.specs.State.{Instant}
 use Rattle.czi_rig.specs.Faults.{Device}
-use Rattle.czi_rig.specs.Moments.{CountsNow, Devices, LeavesSaying, Throughout, devices}
+use Rattle.czi_rig.specs.Moments.{CountsNow, Devices, LeavesSaying, Throughout, devices, FromSomeMoment}
 use Rattle.czi_rig.proofs.Known.{leaves_now}
 use Rattle.czi_rig.proofs.Runs.{weaker}
-use Rattle.czi_session.specs.Course.{From, KeepsFiles, KeepsSaying, Model, OnceDurable}
+use Rattle.czi_session.specs.Course.{KeepsFiles, KeepsSaying, Model, OnceDurable}
 use Rattle.czi_session.proofs.Ending.{from_more, from_weaker}
 
 -- none of the text was said
@@ -19,7 +19,7 @@ module _ {D : Type 0} (rig : Ghosts D) where
   once_weaker at h once = ⊎_elim (λ nothing. inl nothing) (λ from. inr (from_weaker rig h from)) once
 
   -- where no file failed, the files were made durable
-  pub surely : {old new : D} {P : Instant} → OnceDurable rig old new P None → From rig old new P
+  pub surely : {old new : D} {P : Instant} → OnceDurable rig old new P None → FromSomeMoment rig old new P
   surely once = ⊎_elim (λ nothing. absurd nothing.1) (λ from. from) once
 
   -- nothing but an opening came
@@ -27,8 +27,8 @@ module _ {D : Type 0} (rig : Ghosts D) where
   kept_silent m all text old new at once = once_weaker at (keeps_saying m all text) once
 
   -- saying why keeps them
-  pub kept_saying : CountsNow rig → (m : Model) (all now : Devices) (old mid new : D) (text : List ℕ) → From rig old mid (KeepsFiles m all) → devices (rig.state mid) ≡ Some now → now.said ≡ all.said
-      → Throughout rig mid new (LeavesSaying now text) → From rig old new (KeepsSaying m all text)
+  pub kept_saying : CountsNow rig → (m : Model) (all now : Devices) (old mid new : D) (text : List ℕ) → FromSomeMoment rig old mid (KeepsFiles m all) → devices (rig.state mid) ≡ Some now → now.said ≡ all.said
+      → Throughout rig mid new (LeavesSaying now text) → FromSomeMoment rig old new (KeepsSaying m all text)
   kept_saying counts m all now old mid new text from is same says =
       let t : ℕ = (rig.state from.then).moment in
       from_more rig (from_weaker rig (keeps_saying m all text) from) (weaker rig (λ i j o l.

@@ -17,7 +17,7 @@ use Rattle.czi_script.specs.declared.command.Command.{Command as CodeCommand}
 use Rattle.czi_script.specs.declared.kind.Kind.{Kind}
 use Rattle.czi_script.specs.declared.error.ScriptError.{ScriptError}
 use Rattle.czi_script.specs.declared.error.ScriptError.TheVariants.{Fault as FaultError, Input as InputError, TooLong as TooLongError, Memory as MemoryError}
-use Rattle.czi_script.specs.Script.{Command, End, Reads, Spells, SpellAll, HasNo}
+use Rattle.czi_script.specs.Script.{Command, End, Reads, Spells, SpellAll, IsUnfinished}
 use Rattle.czi_script.specs.Reader.{Reader, IsReader, ahead, unused, room, FindsError, FindsSome, LeavesSome, LeavesError, CountsError, TakesFirst, lost_by}
 use Rattle.czi_script.specs.View.{command_of}
 use Rattle.czi_script.specs.Course.{StopsSo, Midway as InScript}
@@ -157,8 +157,8 @@ module _ (m : Model) (on : Disk → Disk → m.Document → Type 0) (reader : Re
       }
 
   module _ (rests : RestsNow m on) (sound : IsReader reader) (now : Reader) (now_left : Option (List ℕ)) (same : now.commands ≡ reader.commands) where
-    each_taken : (held more : List ℕ) → mid.script.input ≡ held ++ more → length held < 4096 → HasNo 10 held → EachTaken m (Unsealed m) state start cs before all more
-    each_taken held more is short free = record {
+    each_taken : (held more : List ℕ) → mid.script.input ≡ held ++ more → IsUnfinished held → EachTaken m (Unsealed m) state start cs before all more
+    each_taken held more is unfinished = record {
       done = mid.script.done;
       rest = mid.script.rest;
       whole = mid.script.whole;
@@ -166,16 +166,20 @@ module _ (m : Model) (on : Disk → Disk → m.Document → Type 0) (reader : Re
       spelled = mid.script.spelled;
       held = held;
       taken = mid.script.taken ∙ ap (λ (x : List ℕ). mid.script.front ++ x) is;
-      short = short;
-      free = free;
+      unfinished = unfinished;
       stands = stands_rest m on rests state _ _ mid.stands;
     }
 
     -- the input failed
-    failing : ((bytes : List ℕ) → ahead reader left ≡ Some bytes → ahead now now_left ≡ Some bytes) → CountsError now InputError → Failing m (Unsealed m) state now_left start cs before all
-    failing leaves holds =
-        let a : IsAhead now.held mid.script.input now_left = is_ahead now.held mid.script.input now_left (leaves mid.script.input mid.script.told) in
-        record { more = a.more; left_is = a.left_is; each = each_taken now.held a.more a.whole holds.short holds.free }
+    failing : LeavesError reader now left now_left InputError → Failing m (Unsealed m) state now_left start cs before all
+    failing leaves =
+        let r = leaves.1.rest mid.script.input mid.script.told in
+        let a : IsAhead now.held r.0 now_left = is_ahead now.held r.0 now_left r.2 in
+        record {
+          more = a.more;
+          left_is = a.left_is;
+          each = each_taken (leaves.0 ++ now.held) a.more (r.1 ∙ ap (λ (x : List ℕ). leaves.0 ++ x) a.whole ∙ sym (append_assoc leaves.0 now.held a.more)) leaves.2;
+        }
 
     -- the input goes on
     beyond : ((bytes : List ℕ) → ahead reader left ≡ Some bytes → FindsError reader bytes TooLongError) → Beyond m (Unsealed m) state start cs before all
@@ -190,7 +194,7 @@ module _ (m : Model) (on : Disk → Disk → m.Document → Type 0) (reader : Re
         record {
           longer = omega (arith, ap (λ (x : List ℕ). length x) mid.script.taken, length-append front input, f.0, n);
           each = subst (λ x. EachTaken m (Unsealed m) state start cs before all x) (sym behind)
-              (each_taken (take (room reader) input) (drop (room reader) input) (sym (take-append-drop (room reader) input)) (omega (arith, length-take (room reader) input, f.2)) f.1);
+              (each_taken (take (room reader) input) (drop (room reader) input) (sym (take-append-drop (room reader) input)) f.1);
         }
 
     -- what comes is no command
@@ -203,10 +207,10 @@ module _ (m : Model) (on : Disk → Disk → m.Document → Type 0) (reader : Re
     between : Between m (Unsealed m) state start cs before
     between = record { done = mid.script.done; rest = mid.script.rest; whole = mid.script.whole; stands = stands_rest m on rests state _ _ mid.stands }
 
-    pub reader_stops : (error : ScriptError) → ((bytes : List ℕ) → ahead reader left ≡ Some bytes → FindsError reader bytes error) → ((bytes : List ℕ) → ahead reader left ≡ Some bytes → LeavesError reader now bytes (ahead now now_left) error)
+    pub reader_stops : (error : ScriptError) → ((bytes : List ℕ) → ahead reader left ≡ Some bytes → FindsError reader bytes error) → LeavesError reader now left now_left error
         → CountsError now error → StopsAt m (Unsealed m) state now_left start cs end before all (stop_by error)
     reader_stops (FaultError n kind) finds leaves counts = fault n kind finds counts
-    reader_stops InputError finds leaves counts = failing leaves counts
+    reader_stops InputError finds leaves counts = failing leaves
     reader_stops TooLongError finds leaves counts = beyond finds
     reader_stops MemoryError finds leaves counts = inr between
 

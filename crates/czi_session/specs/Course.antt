@@ -8,7 +8,7 @@ use Rattle.czi_rig.specs.State.{State, Instant, SameFiles, seen_of}
 use Rattle.czi_rig.specs.declared.rig.Rig.{Ghosts}
 use Rattle.czi_rig.specs.declared.file.File.TheVariants.{Image, Journal}
 use Rattle.czi_rig.specs.Faults.{Device}
-use Rattle.czi_rig.specs.Moments.{Devices, LeavesSaying, devices, Throughout, Always}
+use Rattle.czi_rig.specs.Moments.{Devices, LeavesSaying, devices, Throughout, FromSomeMoment, LeavesNothingNew}
 use Rattle.czi_rig.specs.Spans.{During, InSpans}
 use Rattle.czi_session.specs.Stops.{IsFile}
 
@@ -136,38 +136,27 @@ pub record Sealed (m : Model) (image journal : Disk) (s : m.Document) : Type 0 w
   pub rests : Rests m image journal s
   pub void : Everywhere m.void journal
 
--- no crash leaves anything that it couldn't have left at the start
-abbrev pub Nothing : {D : Type 0} → Ghosts D → D → D → Type 0
-Nothing rig old new = Throughout rig old new (λ image journal said. ⊥)
-
--- Up to some moment a crash leaves nothing that it couldn't have left at the start. What it leaves from then on has P.
-pub record From {D : Type 0} (rig : Ghosts D) (old new : D) (P : Instant) : Type 0 where
-  pub then : D
-  pub before : Nothing rig old then
-  pub after : Throughout rig then new P
-  pub always : Always rig then new P
-
 -- From the moment at which the files are durable what a crash leaves has P. Only where one of the two files fails that moment
 -- may not have come, and then nothing new was left.
 abbrev pub OnceDurable : {D : Type 0} → Ghosts D → D → D → Instant → Option Device → Type 0
-OnceDurable rig old new P at = (Nothing rig old new × IsFile at) ⊎ From rig old new P
+OnceDurable rig old new P at = (LeavesNothingNew rig old new × IsFile at) ⊎ FromSomeMoment rig old new P
 
 -- From the moment at which the files are durable the time falls into spans, in each of which any two pairs that a crash leaves
 -- have the same bytes in each item that both need.
 pub record AlikeFrom {D : Type 0} (rig : Ghosts D) (old new : D) (m : Model) : Type 0 where
   pub then : D
-  pub before : Nothing rig old then
+  pub before : LeavesNothingNew rig old then
   pub spans : InSpans rig then new m.alike
 
 -- only where one of the two files fails that moment may not have come
 abbrev pub OnceAlike : {D : Type 0} → Ghosts D → D → D → Model → Option Device → Type 0
-OnceAlike rig old new m at = (Nothing rig old new × IsFile at) ⊎ AlikeFrom rig old new m
+OnceAlike rig old new m at = (LeavesNothingNew rig old new × IsFile at) ⊎ AlikeFrom rig old new m
 
 -- The files were opened at a state: they rested at it, with nothing said. From then on whatever a crash leaves opens and reads to
 -- a prefix of the commands.
 pub record Runs {D : Type 0} (rig : Ghosts D) (old new : D) (m : Model) (start : m.Document) (cs : List Command) (last said : List ℕ) : Type 0 where
   pub opened : D
-  pub opening : From rig old opened (Open m start said)
+  pub opening : FromSomeMoment rig old opened (Open m start said)
   pub rested : Stands m (Unsealed m) (rig.state opened) said start
   pub running : During rig opened new (ReadsToPrefix m start cs last said)
 
@@ -175,7 +164,7 @@ pub record Runs {D : Type 0} (rig : Ghosts D) (old new : D) (m : Model) (start :
 -- were opened, and once they are durable what a crash leaves opens to that state, with nothing said; or it ended so early that
 -- nothing new was left.
 abbrev pub AtEveryMoment : {D : Type 0} → Ghosts D → D → D → (m : Model) → m.Document → List Command → (last said : List ℕ) → (early unopened : Type 0) → Type 0
-AtEveryMoment rig old new m start cs last said early unopened = (Nothing rig old new × early) ⊎ (From rig old new (Open m start said) × unopened) ⊎ Runs rig old new m start cs last said
+AtEveryMoment rig old new m start cs last said early unopened = (LeavesNothingNew rig old new × early) ⊎ (FromSomeMoment rig old new (Open m start said) × unopened) ⊎ Runs rig old new m start cs last said
 
 -- Both files were left alone while this text was said: a crash leaves what it could leave of them before.
 pub record OnlySays {D : Type 0} (rig : Ghosts D) (old new : D) (text : List ℕ) : Type 0 where
@@ -191,7 +180,7 @@ pub record RepliesOnly {D : Type 0} (rig : Ghosts D) (old new : D) (m : Model) (
 -- The files were opened at a state, then left alone while this reply was said, and then the journal was sealed at most.
 pub record OnlyReads {D : Type 0} (rig : Ghosts D) (old new : D) (m : Model) (said reply : List ℕ) (first last : m.Document) : Type 0 where
   pub opened : D
-  pub opening : From rig old opened (Open m first said)
+  pub opening : FromSomeMoment rig old opened (Open m first said)
   pub replying : RepliesOnly rig opened new m said reply last
 
 -- a run begins at a state, over an input that is told

@@ -8,7 +8,7 @@ use Rattle.czi_rig.specs.State.{State, seen_of}
 use Rattle.czi_rig.specs.Moments.{Devices, devices}
 use Rattle.czi_rig.specs.Passes.{Rose}
 use Rattle.czi_script.specs.declared.kind.Kind.{Kind}
-use Rattle.czi_script.specs.Script.{Command, End, Done as DoneOf, Fault, SpellAll, HasNo}
+use Rattle.czi_script.specs.Script.{Command, End, Done as DoneOf, Fault, SpellAll, IsUnfinished}
 use Rattle.czi_script.specs.Course.{StopsSo}
 use Rattle.czi_script.specs.declared.error.ScriptError.TheVariants.{Fault as FaultError}
 use Rattle.czi_session.specs.declared.stop.OpenStop.{OpenStop}
@@ -60,8 +60,8 @@ module _ (m : Model) (on : Disk → Disk → m.Document → Type 0) (state : Sta
     pub whole : cs ≡ done ++ rest
     pub stands : AllDone start done before
 
-  -- Each command was done whose bytes were taken, and its reply said: no whole line is among the other bytes that were
-  -- taken.
+  -- Each command was done whose bytes were taken, and its reply said: the other bytes that were taken are an unfinished
+  -- command.
   pub record EachTaken (start : m.Document) (cs : List Command) (before all more : List ℕ) : Type 0 where
     pub done : List Command
     pub rest : List Command
@@ -70,8 +70,7 @@ module _ (m : Model) (on : Disk → Disk → m.Document → Type 0) (state : Sta
     pub spelled : SpellAll done front
     pub held : List ℕ
     pub taken : all ≡ front ++ (held ++ more)
-    pub short : length held < 4096
-    pub free : HasNo 10 held
+    pub unfinished : IsUnfinished held
     pub stands : AllDone start done before
 
   -- inside a command, where the replies before it were said

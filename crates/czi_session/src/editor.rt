@@ -6,11 +6,11 @@ ghost use Rattle.czi_rig.specs.Disk.{Disk};
 ghost use Rattle.czi_rig.specs.State.{State, SameFiles, seen_of};
 ghost use Rattle.czi_rig.specs.Faults.{Faults, device_of, failed_at, fault_at};
 ghost use Rattle.czi_rig.specs.Passes.{GoesOn};
-ghost use Rattle.czi_rig.specs.Moments.{Throughout, Devices, devices};
+ghost use Rattle.czi_rig.specs.Moments.{Throughout, Devices, devices, FromSomeMoment};
 ghost use Rattle.czi_rig.specs.Spans.{EachTwo};
 ghost use Rattle.czi_script.specs.Script.{Command as Cmd};
 ghost use Rattle.czi_script.specs.View.{command_of};
-ghost use Rattle.czi_session.specs.Course.{EitherSide, From, IsUnrefused, KeepsFiles, Model, OnceAlike, OnceDurable, Open, Opening, Sealed, Sealing, Stands, Unsealed};
+ghost use Rattle.czi_session.specs.Course.{EitherSide, IsUnrefused, KeepsFiles, Model, OnceAlike, OnceDurable, Open, Opening, Sealed, Sealing, Stands, Unsealed};
 ghost use Rattle.czi_session.specs.Stops.{editor_device, open_device};
 ghost use Rattle.czi_session.specs.Ends.{OpensSo, Refuses};
 
@@ -40,7 +40,7 @@ pub trait Editor: Drop {
     /// journal is never written.
     fn open<R: Rig>(alloc: Global, rig: &mut R) -> Result<Self, OpenStop>
         ensures opens { (said : List ℕ) (s : model.Document) → Opening model (R.state rig.old) said s → MatchResult result
-            (λ editor. From R.Rig rig.old rig.new (Open model s said) × Stands model (stands editor) (R.state rig.new) said s)
+            (λ editor. FromSomeMoment R.Rig rig.old rig.new (Open model s said) × Stands model (stands editor) (R.state rig.new) said s)
             (λ stop. OpensSo stop × OnceDurable R.Rig rig.old rig.new (Open model s said) (open_device stop)) }
         // Once it is durable, any two pairs that a crash leaves have the same bytes in each item that both need.
         ensures alike { (said : List ℕ) (s : model.Document) → Opening model (R.state rig.old) said s → OnceAlike R.Rig rig.old rig.new model (fault_at open_device result) }

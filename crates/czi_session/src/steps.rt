@@ -5,10 +5,10 @@ ghost use Rattle.std.specs.Option.{ForSome};
 ghost use Rattle.czi_rig.specs.State.{SameFiles, seen_of};
 ghost use Rattle.czi_rig.specs.Faults.{Faults, fault_at};
 ghost use Rattle.czi_rig.specs.Passes.{GoesOn};
-ghost use Rattle.czi_rig.specs.Moments.{Throughout, Devices, LeavesSaying, devices};
+ghost use Rattle.czi_rig.specs.Moments.{Throughout, Devices, LeavesSaying, devices, FromSomeMoment};
 ghost use Rattle.czi_rig.specs.Spans.{EachTwo, InSpans};
 ghost use Rattle.czi_script.specs.View.{command_of};
-ghost use Rattle.czi_session.specs.Course.{From, IsUnrefused, KeepsRefused, OnceAlike, OnceDurable, OnlySays, Open, Opening, Sealed, Sealing, Stands, Unsealed, WhileSaid, WithinStep};
+ghost use Rattle.czi_session.specs.Course.{IsUnrefused, KeepsRefused, OnceAlike, OnceDurable, OnlySays, Open, Opening, Sealed, Sealing, Stands, Unsealed, WhileSaid, WithinStep};
 ghost use Rattle.czi_session.specs.Stops.{EndsOpening, EndsUnopened, IsFile, StopsAlone, end_device, stop_device};
 ghost use Rattle.czi_session.specs.Ends.{MayBeSealed, SaysRefusal, OpeningEnds, RefusedEnds, RefusedSo, StepStops, TextStops};
 ghost use Rattle.czi_session.specs.Text.{fault_line};
@@ -38,7 +38,7 @@ fn say_refusal<R: Rig>(rig: &mut R, text: &[u8]) -> Ended
 /// Opens the files. Says why where they are refused.
 pub(crate) fn opened<E: Editor, R: Rig>(alloc: Global, rig: &mut R) -> Result<E, Ended>
     ensures opens { (said : List ℕ) (s : E.model.Document) → Opening E.model (R.state rig.old) said s → MatchResult result
-        (λ editor. From R.Rig rig.old rig.new (Open E.model s said) × Stands E.model (E.stands editor) (R.state rig.new) said s)
+        (λ editor. FromSomeMoment R.Rig rig.old rig.new (Open E.model s said) × Stands E.model (E.stands editor) (R.state rig.new) said s)
         (λ ended. OpeningEnds E.model (R.state rig.new) s said ended × EndsOpening ended × OnceDurable R.Rig rig.old rig.new (Open E.model s said) (end_device ended)) }
     ensures alike { (said : List ℕ) (s : E.model.Document) → Opening E.model (R.state rig.old) said s → OnceAlike R.Rig rig.old rig.new E.model (fault_at end_device result) }
     ensures ready { IfOk result (λ editor. E.ready editor (R.state rig.new)) }

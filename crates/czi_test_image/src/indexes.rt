@@ -107,6 +107,12 @@ fn check_tile(rt: &impl Abort, index: &Index) {
     assert!(rt; tile.walked && tile.span.at == 768 && tile.span.len == 320);
     assert!(rt; tile.begin == 1056 && tile.meta == 0 && tile.pixels == 8 && tile.tail == 0);
     assert!(rt; tile.head.allocated == 288 && tile.head.used == 264);
+    check_summary(rt, index);
+}
+
+// The number of the only subblock's key and how long its entry is: it has one dimension, X from 0 on.
+fn check_summary(rt: &impl Abort, index: &Index) {
+    assert!(rt; index.key_numbers() == [0x6E5E_C158].as_slice() && index.entries_len() == 52);
 }
 
 // Its only attachment.
@@ -253,6 +259,7 @@ fn check_other(
     assert!(rt; tile.span.at == other && tile.span.len == 320);
     assert!(rt; index.length == length && index.walk_end == length && index.unknown == 0);
     assert!(rt; index.extents.is_empty());
+    check_summary(rt, index);
     check_directory(rt, index, u64::from(at), len)
 }
 

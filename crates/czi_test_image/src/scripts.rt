@@ -3,7 +3,7 @@
 ghost use Rattle.std.specs.Prelude.{None};
 ghost use Rattle.czi_rig.specs.MemSource.{input_in};
 
-use czi_doc::read_dims;
+use czi_doc::{Bytes, EntryInfo, read_dims};
 use czi_rig::{Failed, MemSource, Source};
 use czi_script::{
     Command, Kind, ScriptError, ScriptReader, faults_show, faults_stay, no_spelling_begins_another,
@@ -27,10 +27,36 @@ impl Source for Drip {
     }
 }
 
+// An input that gives a line, then so many bytes, and then `\n` and a line. It doesn't tell what is left.
+#[derive(Drop)]
+struct Padded {
+    line: MemSource,
+    padding: u64,
+    end: MemSource,
+}
+
+impl Source for Padded {
+    ghost input = { λ s. record { left = None; faults = 0 } };
+
+    fn take(&mut self, into: &mut [u8]) -> Result<usize, Failed> {
+        if let Ok(count) = self.line.take(into)
+            && count > 0
+        {
+            return Ok(count);
+        }
+        let count = self.padding.min(into.len() as u64);
+        self.padding -= count;
+        if count > 0 {
+            return Ok(count as usize);
+        }
+        Ok(self.end.take(into).unwrap_or(0))
+    }
+}
+
 // A script, how many commands are read of it, and why no further one is.
 type Row = (&'static [u8], u64, Option<Kind>);
 
-static SCRIPTS: [Row; 34] = [
+static SCRIPTS: [Row; 62] = [
     (b"", 0, None),
     (b"list\n", 1, None),
     (b"info\nlist\nremove dims=C0,X0:4,Y0:2:1\n", 3, None),
@@ -62,14 +88,134 @@ static SCRIPTS: [Row; 34] = [
     (b"remove dims=C0\r\n", 0, Some(Kind::Value)),
     (b"remove dims=C2147483648\n", 0, Some(Kind::Value)),
     (b"undo\n", 0, Some(Kind::Later)),
-    (b"list\nadd data=8\nlist", 1, Some(Kind::Later)),
+    (b"list\nattach data=8\nlist", 1, Some(Kind::Later)),
     (b"meta  xml=\n", 0, Some(Kind::Later)),
     (b"adds\n", 0, Some(Kind::Word)),
+    (b"add pixel=0 dims=C0 meta=0 data=0 att=0\n\n", 1, None),
+    (
+        b"add pixel=0 comp=1 dims=C0 meta=0 data=0 att=0\n\n",
+        1,
+        None,
+    ),
+    (
+        b"add pixel=0 pyramid=1 dims=C0 meta=0 data=0 att=0\n\n",
+        1,
+        None,
+    ),
+    (
+        b"replace pixel=1 comp=-2147483648 pyramid=255 dims=C0,X1:2:3 meta=1 data=2 att=1\n\n12\n\nlist\n",
+        2,
+        None,
+    ),
+    (b"add\n", 0, Some(Kind::Field)),
+    (b"list\nadd data=8\nlist", 1, Some(Kind::Field)),
+    (b"add dims=C0 meta=0 data=0 att=0\n\n", 0, Some(Kind::Field)),
+    (
+        b"add pixel=0 dims=C0 meta=0 data=0\n\n",
+        0,
+        Some(Kind::Field),
+    ),
+    (
+        b"add dims=C0 pixel=0 meta=0 data=0 att=0\n\n",
+        0,
+        Some(Kind::Field),
+    ),
+    (
+        b"add pixel=0 dims=C0 data=0 meta=0 att=0\n\n",
+        0,
+        Some(Kind::Field),
+    ),
+    (
+        b"add pixel=0 pyramid=0 comp=0 dims=C0 meta=0 data=0 att=0\n\n",
+        0,
+        Some(Kind::Field),
+    ),
+    (
+        b"add pixel=0 comp=0 comp=0 dims=C0 meta=0 data=0 att=0\n\n",
+        0,
+        Some(Kind::Field),
+    ),
+    (
+        b"add pixel=0 dims=C0 meta=0 data=0 att=0 \n\n",
+        0,
+        Some(Kind::Field),
+    ),
+    (b"replace pixel=x\n", 0, Some(Kind::Field)),
+    (
+        b"add pixel= dims=C0 meta=0 data=0 att=0\n\n",
+        0,
+        Some(Kind::Value),
+    ),
+    (
+        b"add pixel=-0 dims=C0 meta=0 data=0 att=0\n\n",
+        0,
+        Some(Kind::Value),
+    ),
+    (
+        b"add pixel=01 dims=C0 meta=0 data=0 att=0\n\n",
+        0,
+        Some(Kind::Value),
+    ),
+    (
+        b"add pixel=2147483648 dims=C0 meta=0 data=0 att=0\n\n",
+        0,
+        Some(Kind::Value),
+    ),
+    (
+        b"add pixel=0 comp=+1 dims=C0 meta=0 data=0 att=0\n\n",
+        0,
+        Some(Kind::Value),
+    ),
+    (
+        b"add pixel=0 pyramid=256 dims=C0 meta=0 data=0 att=0\n\n",
+        0,
+        Some(Kind::Value),
+    ),
+    (
+        b"add pixel=0 dims=c0 meta=0 data=0 att=0\n\n",
+        0,
+        Some(Kind::Value),
+    ),
+    (
+        b"add pixel=0 dims=C0 meta=-1 data=0 att=0\n\n",
+        0,
+        Some(Kind::Value),
+    ),
+    (
+        b"add pixel=0 dims=C0 meta=0 data=0 att=18446744073709551616\n\n",
+        0,
+        Some(Kind::Value),
+    ),
+    (
+        b"add pixel=0 dims=C0 meta=0 data=0 att=18446744073709551615\n\n",
+        0,
+        Some(Kind::Cut),
+    ),
+    (
+        b"add pixel=0 dims=C0 meta=0 data=0 att=0\n",
+        0,
+        Some(Kind::Cut),
+    ),
+    (
+        b"list\nadd pixel=0 dims=C0 meta=1 data=1 att=1\nabc",
+        1,
+        Some(Kind::Cut),
+    ),
+    (
+        b"add pixel=0 dims=C0 meta=0 data=0 att=0\nlist\n",
+        0,
+        Some(Kind::Tail),
+    ),
+    (
+        b"list\nadd pixel=0 dims=C0 meta=1 data=1 att=1\nabcd\n",
+        1,
+        Some(Kind::Tail),
+    ),
 ];
 
 // The command words of the format that aren't built.
-static WORDS: [&str; 9] = [
-    "add", "replace", "attach", "reattach", "detach", "meta", "undo", "repack", "region",
+static WORDS: [&str; 7] = [
+    "attach", "reattach", "detach", "meta", "undo", "repack", "region",
 ];
 
 // How long a line is, whether a line feed follows, and what kind of fault it is.
@@ -252,7 +398,11 @@ fn a_failed_input_is_told_from_then_on(rt: HostRuntime) -> Result<(), Fail> {
     let mut source = MemSource::new(rt.alloc(), b"info\nlist\n")?;
     source.fail_call(7)?;
     let mut drip = Drip { source };
-    check_all(&rt, rt.alloc(), &mut drip, 1, Some(ScriptError::Input))
+    check_all(&rt, rt.alloc(), &mut drip, 1, Some(ScriptError::Input))?;
+    let mut source = MemSource::new(rt.alloc(), PAYLOADS[0])?;
+    source.fail_call(43)?;
+    let mut drip = Drip { source };
+    check_all(&rt, rt.alloc(), &mut drip, 0, Some(ScriptError::Input))
 }
 
 #[test]
@@ -280,4 +430,127 @@ fn laws(_rt: HostRuntime) {
     one_answer();
     reading_goes_on();
     faults_show();
+}
+
+// The line of `add` or `replace` whose payload is cut at each place, with that payload.
+static PAYLOADS: [&[u8]; 2] = [
+    b"add pixel=0 dims=C0 meta=2 data=3 att=1\nmmpppt\n",
+    b"replace pixel=0 dims=C0 meta=0 data=1 att=5\n\nttttt\n",
+];
+
+#[test]
+fn a_payload_that_is_cut_ends_at_its_command(rt: HostRuntime) -> Result<(), Fail> {
+    for script in PAYLOADS.iter() {
+        for len in 1..script.len() {
+            check_script(&rt, rt.alloc(), &script[..len], 0, Some(Kind::Cut))?;
+        }
+        check_script(&rt, rt.alloc(), script, 1, None)?;
+    }
+    Ok(())
+}
+
+// What an entry of these tests says, with these two fields and this pyramid type.
+fn entry_of(alloc: Global, pixel: i32, compression: i32, pyramid: u8) -> Result<EntryInfo, Fail> {
+    let Ok(dims) = read_dims(alloc, b"C0,X1:2:3") else {
+        return Err(Fail::new("dimensions"));
+    };
+    Ok(EntryInfo {
+        pixel,
+        compression,
+        pyramid,
+        spare: [0; 5],
+        dims,
+    })
+}
+
+#[test]
+fn add_and_replace_have_their_fields_and_payload(rt: HostRuntime) -> Result<(), Fail> {
+    let alloc = rt.alloc();
+    let script =
+        b"add pixel=3 dims=C0,X1:2:3 meta=2 data=3 att=1\nmmpp\nt\nreplace pixel=-4 comp=1 pyramid=2 dims=C0,X1:2:3 meta=0 data=1 att=2\np\n\n\n";
+    let mut input = MemSource::new(alloc, script)?;
+    let mut reader = ScriptReader::new(alloc)?;
+    let added = Command::Add {
+        info: entry_of(alloc, 3, 0, 0)?,
+        meta: Bytes::new(Vec::from_slice(alloc, b"mm")?),
+        pixels: Bytes::new(Vec::from_slice(alloc, b"pp\n")?),
+        tail: Bytes::new(Vec::from_slice(alloc, b"t")?),
+    };
+    assert!(&rt; reader.next(&mut input) == Ok(Some(added)));
+    let replaced = Command::Replace {
+        info: entry_of(alloc, -4, 1, 2)?,
+        meta: Bytes::new(Vec::new(alloc)),
+        pixels: Bytes::new(Vec::from_slice(alloc, b"p")?),
+        tail: Bytes::new(Vec::from_slice(alloc, b"\n\n")?),
+    };
+    assert!(&rt; reader.next(&mut input) == Ok(Some(replaced)));
+    assert!(&rt; reader.next(&mut input) == Ok(None));
+    Ok(())
+}
+
+// A line, how many bytes its payload has, and the length and limit of the piece that is told.
+static PAST: [(&[u8], u64, u64, u64); 4] = [
+    (
+        b"add pixel=0 dims=C0 meta=16777217 data=0 att=0\n",
+        16_777_217,
+        16_777_217,
+        16_777_216,
+    ),
+    (
+        b"replace pixel=0 dims=C0 meta=0 data=67108865 att=1\n",
+        67_108_866,
+        67_108_865,
+        67_108_864,
+    ),
+    (
+        b"add pixel=0 dims=C0 meta=0 data=67108864 att=67108865\n",
+        134_217_729,
+        67_108_865,
+        67_108_864,
+    ),
+    (
+        b"add pixel=0 dims=C0 meta=16777217 data=67108865 att=0\n",
+        83_886_082,
+        16_777_217,
+        16_777_216,
+    ),
+];
+
+#[test]
+fn a_piece_past_its_limit_is_read_and_told(rt: HostRuntime) -> Result<(), Fail> {
+    let alloc = rt.alloc();
+    for (line, padding, len, limit) in PAST.iter() {
+        let mut input = Padded {
+            line: MemSource::new(alloc, line)?,
+            padding: *padding,
+            end: MemSource::new(alloc, b"\nlist\n")?,
+        };
+        let mut reader = ScriptReader::new(alloc)?;
+        let long = Command::Long {
+            len: *len,
+            limit: *limit,
+        };
+        assert!(&rt; reader.next(&mut input) == Ok(Some(long)));
+        assert!(&rt; reader.next(&mut input) == Ok(Some(Command::List)));
+        assert!(&rt; reader.next(&mut input) == Ok(None));
+    }
+    Ok(())
+}
+
+#[test]
+fn a_piece_at_its_limit_is_kept(rt: HostRuntime) -> Result<(), Fail> {
+    let alloc = rt.alloc();
+    let mut input = Padded {
+        line: MemSource::new(alloc, b"add pixel=0 dims=C0 meta=16777216 data=0 att=0\n")?,
+        padding: 16_777_216,
+        end: MemSource::new(alloc, b"\n")?,
+    };
+    let mut reader = ScriptReader::new(alloc)?;
+    match reader.next(&mut input) {
+        Ok(Some(Command::Add { meta, .. })) => {
+            assert!(&rt; meta.as_slice().len() == 16_777_216);
+            Ok(())
+        }
+        _ => Err(Fail::new("no subblock")),
+    }
 }

@@ -48,6 +48,54 @@ loop-command-preserved-in_ok-step-in-Ok-Some g c =
       no_fault = with_then _ _ _ _ _ _ _ inv.no_fault (record { rig = c.in_ok-step-in-Ok-Some.ensures.cause; input_count = c.in-Ok-Some.ensures.cause inv.none });
     }
 
+pub loop-command-preserved-in_ok-step-in-Ok-Some-2 : goal.loop-command-preserved-in_ok-step-in-Ok-Some-2
+loop-command-preserved-in_ok-step-in-Ok-Some-2 g c =
+    let m = g.E.Editor.model in
+    let inv = c.loop-command.invariant in
+    let on = g.E.Editor.stands c.loop-command.editor in
+    let left = (g.S.Source.input c.loop-command.input).left in
+    let leaves = rw c.in-Ok-Some.field-0-is at (c.in-Ok-Some.ensures.leaves inv.none) in
+    let count = rw c.in-Ok-Some.field-0-is at (c.in-Ok-Some.ensures.counts inv.none) in
+    record {
+      midway = λ cs end said s h. midway_next m on c.loop-command.reader left (g.R.Rig.state c.loop-command.rig) s cs end said h.input (inv.midway cs end said s h) c.in-Ok-Some.command c.next.new.self _ leaves
+          (g.E.Editor.stands c.step.new.editor) (g.R.Rig.state c.step.new.rig) count c.in_ok-step-in-Ok-Some.ensures.ok;
+      moments = λ cs end said s h last. moments_next m on c.loop-command.reader left (g.R.Rig.state c.loop-command.rig) s cs end said h.input (inv.midway cs end said s h) c.in-Ok-Some.command c.next.new.self _ leaves
+          g.met.E.Editor.says_something g.R.Rig c.args.rig.now c.loop-command.rig c.step.new.rig last (inv.moments cs end said s h last) c.step.ensures.moments;
+      alike = λ cs end said s h. alike_next m on c.loop-command.reader left (g.R.Rig.state c.loop-command.rig) s cs end said h.input (inv.midway cs end said s h) c.in-Ok-Some.command c.next.new.self _ leaves
+          g.R.Rig c.args.rig.now c.loop-command.rig c.step.new.rig (inv.alike cs end said s h) c.step.ensures.alike;
+      taken = taken_on _ left _ c.loop-command.reader c.next.new.self inv.taken (c.in-Ok-Some.ensures.takes inv.none);
+      sound = c.next.ensures.sound;
+      none = c.in-Ok-Some.ensures.keeps;
+      ready = c.in_ok-step-in-Ok-Some.ensures.ready;
+      goes_on = goes_then _ _ _ inv.goes_on c.step.ensures.goes_on;
+      later = omega (arith, inv.later, c.next.ensures.later);
+      no_fault = with_then _ _ _ _ _ _ _ inv.no_fault (record { rig = c.in_ok-step-in-Ok-Some.ensures.cause; input_count = c.in-Ok-Some.ensures.cause inv.none });
+    }
+
+pub loop-command-preserved-in_ok-step-in-Ok-Some-3 : goal.loop-command-preserved-in_ok-step-in-Ok-Some-3
+loop-command-preserved-in_ok-step-in-Ok-Some-3 g c =
+    let m = g.E.Editor.model in
+    let inv = c.loop-command.invariant in
+    let on = g.E.Editor.stands c.loop-command.editor in
+    let left = (g.S.Source.input c.loop-command.input).left in
+    let leaves = rw c.in-Ok-Some.field-0-is at (c.in-Ok-Some.ensures.leaves inv.none) in
+    let count = rw c.in-Ok-Some.field-0-is at (c.in-Ok-Some.ensures.counts inv.none) in
+    record {
+      midway = λ cs end said s h. midway_next m on c.loop-command.reader left (g.R.Rig.state c.loop-command.rig) s cs end said h.input (inv.midway cs end said s h) c.in-Ok-Some.command c.next.new.self _ leaves
+          (g.E.Editor.stands c.step.new.editor) (g.R.Rig.state c.step.new.rig) count c.in_ok-step-in-Ok-Some.ensures.ok;
+      moments = λ cs end said s h last. moments_next m on c.loop-command.reader left (g.R.Rig.state c.loop-command.rig) s cs end said h.input (inv.midway cs end said s h) c.in-Ok-Some.command c.next.new.self _ leaves
+          g.met.E.Editor.says_something g.R.Rig c.args.rig.now c.loop-command.rig c.step.new.rig last (inv.moments cs end said s h last) c.step.ensures.moments;
+      alike = λ cs end said s h. alike_next m on c.loop-command.reader left (g.R.Rig.state c.loop-command.rig) s cs end said h.input (inv.midway cs end said s h) c.in-Ok-Some.command c.next.new.self _ leaves
+          g.R.Rig c.args.rig.now c.loop-command.rig c.step.new.rig (inv.alike cs end said s h) c.step.ensures.alike;
+      taken = taken_on _ left _ c.loop-command.reader c.next.new.self inv.taken (c.in-Ok-Some.ensures.takes inv.none);
+      sound = c.next.ensures.sound;
+      none = c.in-Ok-Some.ensures.keeps;
+      ready = c.in_ok-step-in-Ok-Some.ensures.ready;
+      goes_on = goes_then _ _ _ inv.goes_on c.step.ensures.goes_on;
+      later = omega (arith, inv.later, c.next.ensures.later);
+      no_fault = with_then _ _ _ _ _ _ _ inv.no_fault (record { rig = c.in_ok-step-in-Ok-Some.ensures.cause; input_count = c.in-Ok-Some.ensures.cause inv.none });
+    }
+
 pub loop-command-preserved : goal.loop-command-preserved
 loop-command-preserved g c =
     let m = g.E.Editor.model in

@@ -1,6 +1,7 @@
 use Rattle.std.proofs.Common.{inr, ap, ◌∙◌, List, ℕ, Some, ◌++◌, subst}
+use Rattle.czi_rig.specs.Moments.{FromSomeMoment}
 use Rattle.czi_rig.proofs.Known.{known_said}
-use Rattle.czi_session.specs.Course.{From, KeepsSaying}
+use Rattle.czi_session.specs.Course.{KeepsSaying}
 use Rattle.czi_session.specs.Ends.{SaysRefusal}
 use Rattle.czi_session.proofs.Kept.{kept_saying, kept_silent, surely}
 use Rattle.czi_session.proofs.Told.{recovered_said, still_told}
@@ -25,7 +26,7 @@ returns-in-Err-Refused-clause-kept g c = λ all text known refused.
     let told = (rw c.in-Err-Refused.field-0-is at (c.in-Err-Refused.ensures.refused all known)).0 in
     let same = c.deref.ensures.value ∙ g.met.E.Editor.refused_once all.image.seen all.journal.seen _ text told refused in
     let still = still_told (g.R.Rig.state c.args.rig.now) (g.R.Rig.state c.open.new.rig) all known c.open.ensures.goes_on c.open.ensures.said in
-    inr (subst (λ (x : List ℕ). From g.R.Rig c.args.rig.now c.say_refusal.new.rig (KeepsSaying g.E.Editor.model all x)) same
+    inr (subst (λ (x : List ℕ). FromSomeMoment g.R.Rig c.args.rig.now c.say_refusal.new.rig (KeepsSaying g.E.Editor.model all x)) same
     (kept_saying g.R.Rig g.met.R.Rig.counts_now g.E.Editor.model all still.now c.args.rig.now c.open.new.rig c.say_refusal.new.rig c.deref.result.now (surely g.R.Rig once) still.known still.said (c.say_refusal.ensures.moments still.now still.known)))
 
 pub returns-in-Err-Refused-clause-refusal : goal.returns-in-Err-Refused-clause-refusal

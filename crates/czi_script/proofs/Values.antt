@@ -1,0 +1,76 @@
+-- The values of a line, as the code has them.
+use Rattle.std.proofs.Common.{◌≡◌, ℕ, ◌+◌, List, [], ◌∷◌, ◌++◌, take, drop, length, true, Option, Some, None, refl, ap, sym, ◌∙◌, subst}
+use Rattle.std.specs.Prelude.{◌==◌, codes, get_or}
+use Rattle.std.proofs.Math.Seq.{take-append_seam, drop-append_seam, drop-append-add}
+use Rattle.czi_format.specs.Partial.{given}
+use Rattle.czi_format.specs.Entry.{Dim, EntryInfo}
+use Rattle.czi_doc.specs.DimText.{IsDimText, IsNatural}
+use Rattle.czi_doc.specs.declared.fault.TextFault.{TextFault}
+use Rattle.czi_doc.specs.declared.fault.TextFault.TheVariants.{Bad, Memory}
+use Rattle.czi_script.specs.declared.fields.Texts.{Texts}
+use Rattle.czi_script.specs.declared.fields.Refusal.{Refusal}
+use Rattle.czi_script.specs.declared.fields.Refusal.TheVariants.{Kind as OfKind, Memory as NoMemory}
+use Rattle.czi_script.specs.Script.{Head, Verb, Split, with_value, IsTile, IsSigned, AreValues, head_word, tile_word, tile_fields, needed, value_at, values_at, from_field}
+use Rattle.czi_script.specs.Pieces.{NoNumbers, RefusesTile, RefusesFields, values_in}
+use Rattle.czi_script.proofs.Grammar.{only_tile, only_remove}
+
+abbrev nth : ℕ → List (List ℕ) → List ℕ
+nth n values = get_or values n []
+
+-- one of the numbers isn't of its form
+pub no_numbers : (t : Texts) → NoNumbers t → (info : EntryInfo) (meta pixels tail : ℕ) → IsTile info meta pixels tail (values_in t) → ⊥
+no_numbers t none info meta pixels tail r = none info.pixel info.compression info.pyramid meta pixels tail (
+  subst (λ x. IsSigned x info.pixel) (sym (ap (nth 0) r.texts)) r.is_pixel,
+  subst (λ x. IsSigned x info.compression) (sym (ap (nth 1) r.texts)) r.is_comp,
+  (subst (λ x. IsNatural x info.pyramid) (sym (ap (nth 2) r.texts)) r.is_pyramid.0, r.is_pyramid.1),
+  (subst (λ x. IsNatural x meta) (sym (ap (nth 4) r.texts)) r.is_meta.0, r.is_meta.1),
+  (subst (λ x. IsNatural x pixels) (sym (ap (nth 5) r.texts)) r.is_data.0, r.is_data.1),
+  (subst (λ x. IsNatural x tail) (sym (ap (nth 6) r.texts)) r.is_att.0, r.is_att.1),
+)
+
+-- a subblock's line is wrong
+pub tile_refused : (verb : Verb) (t : Texts) (text : List ℕ) (refusal : Refusal) → Some (values_in t) ≡ values_at tile_fields text → RefusesTile t refusal → RefusesFields (tile_word verb) tile_fields text refusal
+tile_refused verb t text (OfKind kind) given r = subst (λ k. RefusesFields (tile_word verb) tile_fields text (OfKind k)) (sym r.0) (
+  values_in t,
+  sym given,
+  λ h named are. let x = only_tile verb h (values_in t) named are in r.1 x.0 x.1 x.2 x.3 x.4,
+)
+tile_refused verb t text NoMemory given r = tt
+
+-- the one value of `remove`
+
+one_value : (text value rest : List ℕ) → Some (record { value = value; rest = rest }) ≡ value_at (codes " dims=") text → true ≡ (length rest == 0) → values_at (needed (codes " dims=") ∷ []) text ≡ Some (value ∷ [])
+one_value text value rest found none = ap (λ (found : Option Split). from_field found None (values_at []) text) (sym found) ∙ last
+  where
+    last : from_field (Some (record { value = value; rest = rest })) None (values_at []) text ≡ Some (value ∷ [])
+    last = ap (λ b. with_value value (given b [])) (sym none)
+
+pub remove_says : (text value rest : List ℕ) (dims : List Dim) → Some (record { value = value; rest = rest }) ≡ value_at (codes " dims=") text → true ≡ (length rest == 0) → IsDimText value dims
+    → (values : List (List ℕ)) × (values_at (needed (codes " dims=") ∷ []) text ≡ Some values) × ((x : List ℕ) × (values ≡ x ∷ []) × IsDimText x dims)
+remove_says text value rest dims given none is = (value ∷ [], one_value text value rest given none, (value, refl, is))
+
+pub remove_refused : (text value rest : List ℕ) → Some (record { value = value; rest = rest }) ≡ value_at (codes " dims=") text → true ≡ (length rest == 0) → ((dims : List Dim) → IsDimText value dims → ⊥)
+    → (values : List (List ℕ)) × (values_at (needed (codes " dims=") ∷ []) text ≡ Some values) × ((h : Head) → head_word h ≡ codes "remove" → AreValues h values → ⊥)
+remove_refused text value rest given none wrong = (
+  value ∷ [],
+  one_value text value rest given none,
+  λ h named are.
+      let x = only_remove h (value ∷ []) named are in wrong x.0 (subst (λ t. IsDimText t x.0) (sym (ap (nth 0) x.2)) x.3),
+)
+
+-- the parts of a payload
+module _ (meta pixels tail : List ℕ) where
+  pub first_part : take (length meta) (meta ++ (pixels ++ tail)) ≡ meta
+  first_part = take-append_seam meta (pixels ++ tail)
+
+  pub second_part : take (length pixels) (drop (length meta) (meta ++ (pixels ++ tail))) ≡ pixels
+  second_part = ap (take (length pixels)) (drop-append_seam meta (pixels ++ tail)) ∙ take-append_seam pixels tail
+
+  pub last_part : drop (length meta + length pixels) (meta ++ (pixels ++ tail)) ≡ tail
+  last_part = drop-append-add meta (pixels ++ tail) (length pixels) ∙ drop-append_seam pixels tail
+
+pub bad_not_memory : (fault : TextFault) (place : ℕ) → fault ≡ Bad place → fault ≡ Memory → ⊥
+bad_not_memory fault place bad memory = apart place (sym bad ∙ memory)
+  where
+    apart : (p : ℕ) → Bad p ≡ Memory → ⊥
+    apart p e = cc
