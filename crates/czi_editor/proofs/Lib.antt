@@ -1,4 +1,5 @@
 pub mod Editing
+pub mod Performing
 pub mod Opening
 pub mod Sealing
 pub mod Beginning

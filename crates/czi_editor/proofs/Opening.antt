@@ -6,7 +6,6 @@ use Rattle.czi_image.specs.Holds.{IsSettled}
 use Rattle.czi_image.proofs.Settled.{whole_settled}
 use Rattle.czi_opening.specs.Answers.{AreRecovered, AreSynced, Leaves, Tells as TellsOf, cause_of}
 use Rattle.czi_opening.specs.Course.{OpensFrom, Stays}
-use Rattle.czi_opening.specs.Course as opening
 use Rattle.czi_opening.specs.Devices.{open_device}
 use Rattle.czi_opening.specs.Opens.{Cause, IsRefusedBy, Opens, bad_at, of_another, of_version, too_short, unread}
 use Rattle.czi_opening.specs.declared.error.OpenError.{OpenError}
@@ -17,13 +16,13 @@ use Rattle.czi_rig.specs.declared.file.File.TheVariants.{Image, Journal}
 use Rattle.czi_rig.specs.Disk.{Disk, at_rest}
 use Rattle.czi_rig.specs.State.{Instant, State, known, seen_of}
 use Rattle.czi_rig.specs.Faults.{Device}
-use Rattle.czi_rig.specs.Moments.{Devices, devices, all_of}
+use Rattle.czi_rig.specs.Moments.{Devices, devices, all_of, FromSomeMoment, LeavesNothingNew}
 use Rattle.czi_rig.proofs.Known.{known_said, known_seen}
 use Rattle.czi_rig.proofs.Files.{everywhere_at_rest}
 use Rattle.czi_rig.proofs.Runs.{weaker}
 use Rattle.czi_rig.proofs.Spans.{each_two, one_span}
 use Rattle.czi_vault.specs.Recovered.{Recovered}
-use Rattle.czi_session.specs.Course.{AlikeFrom, From, IsUnrefused, KeepsFiles, Nothing, OnceAlike, OnceDurable, OnlyRecovered, Open, Opening, Stands}
+use Rattle.czi_session.specs.Course.{AlikeFrom, IsUnrefused, KeepsFiles, OnceAlike, OnceDurable, OnlyRecovered, Open, Opening, Stands}
 use Rattle.czi_session.specs.Ends.{OpensSo, Refuses}
 use Rattle.czi_session.specs.Stops.{IsFile}
 use Rattle.czi_session.specs.declared.stop.OpenStop.{OpenStop}
@@ -49,7 +48,7 @@ stays_open all b said is same image journal o stays = (
 )
 
 -- only where a file failed the files may not have become durable
-once : {D : Type 0} (rig : Ghosts D) (old new : D) (P : Instant) (error : OpenError) → OpensFrom rig old new P (Err error) → (Nothing rig old new × IsFile (open_device error)) ⊎ opening.From rig old new P
+once : {D : Type 0} (rig : Ghosts D) (old new : D) (P : Instant) (error : OpenError) → OpensFrom rig old new P (Err error) → (LeavesNothingNew rig old new × IsFile (open_device error)) ⊎ FromSomeMoment rig old new P
 once rig old new P (JournalVersion version) from = inr from
 once rig old new P (BadJournal place) from = inr from
 once rig old new P (ImageShort have need) from = inr from
@@ -60,7 +59,7 @@ once rig old new P JournalDevice from = ⊎_elim (λ none. inl (none, tt)) (λ s
 once rig old new P MemoryOf from = inr from
 
 module _ {D : Type 0} (rig : Ghosts D) (old new : D) (said : List ℕ) (b : Begun) (h : Opening the_machine (rig.state old) said b) where
-  from_open : opening.From rig old new (Stays h.now) → From rig old new (Open the_machine b said)
+  from_open : FromSomeMoment rig old new (Stays h.now) → FromSomeMoment rig old new (Open the_machine b said)
   from_open from = record {
     then = from.then;
     before = from.before;
@@ -68,14 +67,14 @@ module _ {D : Type 0} (rig : Ghosts D) (old new : D) (said : List ℕ) (b : Begu
     always = λ i j o left. stays_open h.now b said h.begins h.said_is i j o (from.always i j o left);
   }
 
-  pub opens_from : ForSome (devices (rig.state old)) (λ all. opening.From rig old new (Stays all)) → From rig old new (Open the_machine b said)
+  pub opens_from : ForSome (devices (rig.state old)) (λ all. FromSomeMoment rig old new (Stays all)) → FromSomeMoment rig old new (Open the_machine b said)
   opens_from moments = from_open (moments h.now h.known)
 
   pub meanwhile : (error : OpenError) (at : Option Device) → at ≡ open_device error → ForSome (devices (rig.state old)) (λ all. OpensFrom rig old new (Stays all) (Err error)) → OnceDurable rig old new (Open the_machine b said) at
   meanwhile error at is moments = subst (OnceDurable rig old new (Open the_machine b said)) (sym is) (⊎_elim (λ none. inl none) (λ from. inr (from_open from)) (once rig old new (Stays h.now) error (moments h.now h.known)))
 
   -- any two pairs stand for the bytes at the start
-  alike_from : opening.From rig old new (Stays h.now) → AlikeFrom rig old new the_machine
+  alike_from : FromSomeMoment rig old new (Stays h.now) → AlikeFrom rig old new the_machine
   alike_from from = record {
     then = from.then;
     before = from.before;
@@ -83,7 +82,7 @@ module _ {D : Type 0} (rig : Ghosts D) (old new : D) (said : List ℕ) (b : Begu
         (record { throughout = from.after; always = from.always }));
   }
 
-  pub opens_alike : ForSome (devices (rig.state old)) (λ all. opening.From rig old new (Stays all)) → OnceAlike rig old new the_machine None
+  pub opens_alike : ForSome (devices (rig.state old)) (λ all. FromSomeMoment rig old new (Stays all)) → OnceAlike rig old new the_machine None
   opens_alike moments = inr (alike_from (moments h.now h.known))
 
   pub meanwhile_alike : (error : OpenError) (at : Option Device) → at ≡ open_device error → ForSome (devices (rig.state old)) (λ all. OpensFrom rig old new (Stays all) (Err error)) → OnceAlike rig old new the_machine at
@@ -144,7 +143,7 @@ unrefused x old new recovered on all text is refused =
     not_both image journal some.state.document refused.cause (record { bytes = o.bytes; recovered = o.recovered; shows = o.shows; idle = o.whole }) refused.refused
 
 module _ {D : Type 0} (rig : Ghosts D) (old new : D) (all : Devices) where
-  from_kept : opening.From rig old new (Stays all) → From rig old new (KeepsFiles the_machine all)
+  from_kept : FromSomeMoment rig old new (Stays all) → FromSomeMoment rig old new (KeepsFiles the_machine all)
   from_kept from = record {
     then = from.then;
     before = from.before;

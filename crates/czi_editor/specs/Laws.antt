@@ -12,14 +12,14 @@ use Rattle.czi_rig.proofs.Files.{left_settled}
 use Rattle.czi_rig.proofs.Known.{known_file, known_said}
 use Rattle.czi_format.specs.Live.{Live}
 use Rattle.czi_journal.specs.Journals.{slot_of}
-use Rattle.czi_machine.specs.Edit.{Refusal, too_long, no_key, duplicate, too_many, nothing, full, remove}
+use Rattle.czi_machine.specs.Edit.{Refusal, too_long, no_key, duplicate, too_many, nothing, full}
 use Rattle.czi_machine.specs.Machine.{after_edit}
 use Rattle.czi_machine.specs.State.{State as MachineState}
 use Rattle.czi_report.specs.Refusals.{cause_text}
 use Rattle.czi_report.specs.Replies.{no_line, ok_line}
 use Rattle.czi_report.specs.States.{list_of, info_of}
 use Rattle.czi_report.specs.Text.{check_text, items_text, map_text, text_line}
-use Rattle.czi_script.specs.Script.{Command, Remove, Listing, Info, Map, Check}
+use Rattle.czi_script.specs.Script.{Command, Add, Replace, Remove, Listing, Info, Map, Check, Past}
 use Rattle.czi_opening.proofs.Verdict.{one_cause}
 use Rattle.czi_engine.specs.declared.engine.Engine.{Engine}
 use Rattle.czi_engine.specs.Editing.{ShowsAlone}
@@ -28,7 +28,7 @@ use Rattle.czi_engine.specs.Stands.{StandsOn}
 use Rattle.czi_engine.proofs.Keeping.{has_opens, one_alike, shows_alone}
 use Rattle.czi_session.specs.Course.{Rests, Unsealed}
 use Rattle.czi_editor.specs.Machine.{AtState, Begins, Begun, HoldsAt, IsReady, IsRefused, the_machine}
-use Rattle.czi_editor.specs.Replies.{edit_reply, reply}
+use Rattle.czi_editor.specs.Replies.{Asked, asked, edits, tells, edit_reply, reply, reply_asked}
 
 -- files of a state, of which every pair that a crash leaves stands for the image, rest at it
 pub rests_at : (b : Begun) (image journal : Disk) (live : Live) → IsAtRest image → IsItself image journal → StandsOn b.start.bytes image.seen live b.state → KeepsItems b.start image.seen b.state.layout
@@ -88,14 +88,30 @@ unfolding ok_line text_line
 edit_some (Ok s) = zero-lt-suc _
 edit_some (Err refusal) = no_some refusal
 
+-- what tells something of the state is never empty
+TellsSome : Asked → Type 0
+TellsSome (edits e) = Unit {0}
+TellsSome (tells text) = (s : MachineState) → 0 < length (text s)
+
+tells_some : (c : Command) → TellsSome (asked c)
+unfolding TellsSome list_of info_of map_text check_text items_text text_line
+tells_some (Add info meta pixels tail) = tt
+tells_some (Replace info meta pixels tail) = tt
+tells_some (Remove dims) = tt
+tells_some Listing = λ s. zero-lt-suc _
+tells_some Info = λ s. zero-lt-suc _
+tells_some Map = λ s. zero-lt-suc _
+tells_some Check = λ s. zero-lt-suc _
+tells_some (Past len limit) = λ s. no_some (too_long len limit)
+
+says_some : (s : MachineState) (a : Asked) → TellsSome a → 0 < length (reply_asked s a)
+unfolding TellsSome
+says_some s (edits e) some = edit_some (after_edit s e)
+says_some s (tells text) some = some s
+
 -- no reply is empty
 pub each_says : (s : MachineState) (c : Command) → 0 < length (reply s c)
-unfolding list_of info_of map_text check_text items_text text_line
-each_says s (Remove dims) = edit_some (after_edit s (remove dims))
-each_says s Listing = zero-lt-suc _
-each_says s Info = zero-lt-suc _
-each_says s Map = zero-lt-suc _
-each_says s Check = zero-lt-suc _
+each_says s c = says_some s (asked c) (tells_some c)
 
 -- a pair is refused with one text
 pub refused_once_of : (image journal text other : List ℕ) → IsRefused image journal text → IsRefused image journal other → text ≡ other

@@ -1,4 +1,5 @@
 pub mod Replies
 pub mod Answers
 pub mod Machine
+pub mod Performs
 pub mod Laws

@@ -2,45 +2,63 @@
 use Rattle.std.specs.Prelude.{◌≡◌, ℕ, List, Result, Ok, Err}
 use Rattle.czi_engine.specs.Editing.{origin_after, state_after}
 use Rattle.czi_engine.specs.Standing.{Origin}
-use Rattle.czi_machine.specs.Edit.{Refusal, remove}
+use Rattle.czi_machine.specs.Edit.{Edit, Refusal, add, remove, replace, too_long}
 use Rattle.czi_machine.specs.Machine.{after_edit}
 use Rattle.czi_machine.specs.State.{State}
 use Rattle.czi_report.specs.Replies.{no_line, ok_line}
 use Rattle.czi_report.specs.States.{list_of, info_of, map_of, check_of}
-use Rattle.czi_script.specs.Script.{Command, Remove, Listing, Info, Map, Check}
+use Rattle.czi_script.specs.Script.{Command, Add, Replace, Remove, Listing, Info, Map, Check, Past}
+
+-- What a command asks of the machine: an edit, or to be told something of the state.
+pub data Asked : Type 0 where
+  edits : Edit → Asked
+  tells : (State → List ℕ) → Asked
+
+abbrev pub asked : Command → Asked
+asked (Add info meta pixels tail) = edits (add (record { info = info; meta = meta; pixels = pixels; tail = tail }))
+asked (Replace info meta pixels tail) = edits (replace (record { info = info; meta = meta; pixels = pixels; tail = tail }))
+asked (Remove dims) = edits (remove dims)
+asked Listing = tells (λ s. list_of s.document s.layout)
+asked Info = tells (λ s. info_of s.document s.layout)
+asked Map = tells map_of
+asked Check = tells (λ s. check_of s.layout)
+asked (Past len limit) = tells (λ s. no_line (too_long len limit))
 
 -- the reply to an edit
 abbrev pub edit_reply : Result State Refusal → List ℕ
 edit_reply (Ok s) = ok_line s.number
 edit_reply (Err refusal) = no_line refusal
 
--- the state after a command of a script, and its reply
+-- the state after what was asked, the items that have been there since the start, and the reply
+abbrev pub after_asked : State → Asked → State
+after_asked s (edits e) = state_after s e
+after_asked s (tells text) = s
+
+abbrev pub origin_asked : Origin → State → Asked → Origin
+origin_asked o s (edits e) = origin_after o (after_edit s e)
+origin_asked o s (tells text) = o
+
+abbrev pub reply_asked : State → Asked → List ℕ
+reply_asked s (edits e) = edit_reply (after_edit s e)
+reply_asked s (tells text) = text s
+
+-- to be told something changes nothing, and neither does an edit that the machine refuses
+abbrev pub still_asked : State → Asked → Type 0
+still_asked s (edits e) = (refusal : Refusal) × (after_edit s e ≡ Err refusal)
+still_asked s (tells text) = Unit {0}
+
+-- the state after a command of a script
 abbrev pub after : State → Command → State
-after s (Remove dims) = state_after s (remove dims)
-after s Listing = s
-after s Info = s
-after s Map = s
-after s Check = s
+after s c = after_asked s (asked c)
 
--- and the items that have been there since the start
+-- the items that have been there since the start
 abbrev pub origin_then : Origin → State → Command → Origin
-origin_then o s (Remove dims) = origin_after o (after_edit s (remove dims))
-origin_then o s Listing = o
-origin_then o s Info = o
-origin_then o s Map = o
-origin_then o s Check = o
+origin_then o s c = origin_asked o s (asked c)
 
+-- its reply
 abbrev pub reply : State → Command → List ℕ
-reply s (Remove dims) = edit_reply (after_edit s (remove dims))
-reply s Listing = list_of s.document s.layout
-reply s Info = info_of s.document s.layout
-reply s Map = map_of s
-reply s Check = check_of s.layout
+reply s c = reply_asked s (asked c)
 
 -- a query, or an edit that the machine refuses
 abbrev pub still : State → Command → Type 0
-still s (Remove dims) = (refusal : Refusal) × (after_edit s (remove dims) ≡ Err refusal)
-still s Listing = Unit {0}
-still s Info = Unit {0}
-still s Map = Unit {0}
-still s Check = Unit {0}
+still s c = still_asked s (asked c)

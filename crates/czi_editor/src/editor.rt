@@ -1,38 +1,29 @@
 //! The engine as an editor of a session.
 
-ghost use Rattle.std.specs.Prelude.{◌≡◌, ◌++◌, List, ℕ, None, Err, IfErr, OnOk};
-ghost use Rattle.czi_doc.specs.View.{dims_of};
+ghost use Rattle.std.specs.Prelude.{◌≡◌, ◌++◌, IfErr, OnOk};
+ghost use Rattle.czi_doc.specs.View.{bytes_of, dims_of, info_of};
 ghost use Rattle.czi_format.specs.Live.{Live};
 ghost use Rattle.czi_format.specs.Layout.{Layout};
 ghost use Rattle.czi_image.specs.Holds.{Holds, LiesAs};
-ghost use Rattle.czi_machine.specs.Edit.{remove};
-ghost use Rattle.czi_machine.specs.Machine.{after_edit};
+ghost use Rattle.czi_machine.specs.Edit.{too_long};
+ghost use Rattle.czi_report.specs.Replies.{no_line};
 ghost use Rattle.czi_report.specs.States.{check_of};
 ghost use Rattle.czi_report.specs.Text.{info_text, list_text, map_text};
-ghost use Rattle.czi_rig.specs.Faults.{Faults, fault_at};
-ghost use Rattle.czi_rig.specs.Passes.{GoesOn};
-ghost use Rattle.czi_rig.specs.Moments.{Throughout};
-ghost use Rattle.czi_rig.specs.Spans.{EachTwo};
-ghost use Rattle.czi_script.specs.Script.{Remove};
+ghost use Rattle.czi_script.specs.Script.{Add, Remove, Replace};
 ghost use Rattle.czi_space.specs.State.{space_of};
-ghost use Rattle.czi_session.specs.Stops.{editor_device};
-ghost use Rattle.czi_session.specs.Course.{EitherSide, Stands};
 ghost use Rattle.czi_editor.specs.Laws.{begins_unsealed_of, each_says, refused_once_of, rests_now_of, stays_ready_of};
-ghost use Rattle.czi_editor.specs.Machine.{AtState, Begun, IsReady, the_machine};
-ghost use Rattle.czi_editor.specs.Replies.{edit_reply, still};
+ghost use Rattle.czi_editor.specs.Machine.{AtState, IsReady, the_machine};
+ghost use Rattle.czi_editor.specs.Performs.{Performs};
 
 use crate::refusal::stop_of;
-use crate::reply::push_no;
-use czi_doc::Dims;
+use crate::reply::{push_answer, take_room};
+use czi_doc::{Bytes, Dims, EntryInfo};
 use czi_engine::Engine;
-use czi_report::{check, info, list, map, push_ok};
+use czi_report::{check, info, list, map, push_no_long};
 use czi_rig::{Failed, Rig};
 use czi_script::Command;
 use czi_session::{Editor, EditorStop, OpenStop};
 use std::alloc::{AllocError, Global};
-
-/// More bytes than a reply to an edit has: a word, two numbers of at most 20 digits, and spaces.
-const LONGEST_REPLY: usize = 64;
 
 /// An engine, whose commands and replies are those of a script.
 #[derive(Drop)]
@@ -40,7 +31,55 @@ pub struct ImageEditor {
     engine: Engine,
 }
 
-/// Removes a subblock, and appends the reply. Memory for the reply is taken first, so that an edit that was done is told.
+/// Adds a subblock, and appends the reply.
+fn add<R: Rig>(
+    engine: &mut Engine,
+    rig: &mut R,
+    info: &EntryInfo,
+    meta: &Bytes,
+    pixels: &Bytes,
+    tail: &Bytes,
+    reply: &mut Vec<u8>,
+) -> Result<(), EditorStop>
+    requires ready { IsReady engine.old (R.state rig.old) }
+    ensures { Performs R.Rig (Add (info_of info.now) (bytes_of meta.now) (bytes_of pixels.now) (bytes_of tail.now)) rig.old rig.new engine.old engine.new reply.old.items reply.new.items result }
+{
+    take_room(reply)?;
+    let answer = engine.add(
+        rig,
+        info,
+        meta.as_slice(),
+        pixels.as_slice(),
+        tail.as_slice(),
+    );
+    push_answer(answer, reply)
+}
+
+/// Puts a subblock into the place of the one with its key, and appends the reply.
+fn replace<R: Rig>(
+    engine: &mut Engine,
+    rig: &mut R,
+    info: &EntryInfo,
+    meta: &Bytes,
+    pixels: &Bytes,
+    tail: &Bytes,
+    reply: &mut Vec<u8>,
+) -> Result<(), EditorStop>
+    requires ready { IsReady engine.old (R.state rig.old) }
+    ensures { Performs R.Rig (Replace (info_of info.now) (bytes_of meta.now) (bytes_of pixels.now) (bytes_of tail.now)) rig.old rig.new engine.old engine.new reply.old.items reply.new.items result }
+{
+    take_room(reply)?;
+    let answer = engine.replace(
+        rig,
+        info,
+        meta.as_slice(),
+        pixels.as_slice(),
+        tail.as_slice(),
+    );
+    push_answer(answer, reply)
+}
+
+/// Removes a subblock, and appends the reply.
 fn remove<R: Rig>(
     engine: &mut Engine,
     rig: &mut R,
@@ -48,32 +87,21 @@ fn remove<R: Rig>(
     reply: &mut Vec<u8>,
 ) -> Result<(), EditorStop>
     requires ready { IsReady engine.old (R.state rig.old) }
-
-    ensures moments { (said : List ℕ) (b : Begun) → Stands the_machine (AtState engine.old) (R.state rig.old) said b →
-        Throughout R.Rig rig.old rig.new (EitherSide the_machine b (Remove (dims_of dims.now)) said) }
-    ensures alike { (said : List ℕ) (b : Begun) → Stands the_machine (AtState engine.old) (R.state rig.old) said b → EachTwo R.Rig rig.old rig.new the_machine.alike }
-    ensures replied { OnOk result ((said : List ℕ) (b : Begun) → Stands the_machine (AtState engine.old) (R.state rig.old) said b →
-        reply.new.items ≡ reply.old.items ++ edit_reply (after_edit b.state (remove (dims_of dims.now)))) }
-    ensures stands { OnOk result ((said : List ℕ) (b : Begun) → Stands the_machine (AtState engine.old) (R.state rig.old) said b →
-        Stands the_machine (AtState engine.new) (R.state rig.new) said (the_machine.after b (Remove (dims_of dims.now)))) }
-    ensures ready { OnOk result (IsReady engine.new (R.state rig.new)) }
-    ensures said { (R.state rig.new).said ≡ (R.state rig.old).said }
-    ensures goes_on { GoesOn (R.state rig.old) (R.state rig.new) }
-    // What the machine refuses is refused before any device is asked, or memory is wanting.
-    ensures still { (said : List ℕ) (b : Begun) → Stands the_machine (AtState engine.old) (R.state rig.old) said b → still b.state (Remove (dims_of dims.now)) →
-        (fault_at editor_device result ≡ None) × (rig.new ≡ rig.old) }
-    ensures starved { result ≡ Err EditorStop.Memory → rig.new ≡ rig.old }
-    ensures cause { Faults (fault_at editor_device result) (R.state rig.old) (R.state rig.new) }
+    ensures { Performs R.Rig (Remove (dims_of dims.now)) rig.old rig.new engine.old engine.new reply.old.items reply.new.items result }
 {
-    let Ok(()) = reply.reserve(LONGEST_REPLY) else {
-        return Err(EditorStop::Memory);
-    };
-    match engine.remove(rig, dims) {
-        Ok(number) => match push_ok(number, reply) {
-            Ok(()) => Ok(()),
-            Err(AllocError) => unreachable!(),
-        },
-        Err(error) => push_no(&error, reply),
+    take_room(reply)?;
+    let answer = engine.remove(rig, dims);
+    push_answer(answer, reply)
+}
+
+/// Appends that a piece of a payload is past its limit.
+fn push_long(len: u64, limit: u64, reply: &mut Vec<u8>) -> Result<(), EditorStop>
+    ensures said { OnOk result (reply.new.items ≡ reply.old.items ++ no_line (too_long len limit)) }
+    ensures stopped { IfErr result (λ stop. stop ≡ EditorStop.Memory) }
+{
+    match push_no_long(len, limit, reply) {
+        Ok(()) => Ok(()),
+        Err(AllocError) => Err(EditorStop::Memory),
     }
 }
 
@@ -152,11 +180,24 @@ impl Editor for ImageEditor {
         reply: &mut Vec<u8>,
     ) -> Result<(), EditorStop> {
         match command {
+            Command::Add {
+                info,
+                meta,
+                pixels,
+                tail,
+            } => add(&mut self.engine, rig, info, meta, pixels, tail, reply),
+            Command::Replace {
+                info,
+                meta,
+                pixels,
+                tail,
+            } => replace(&mut self.engine, rig, info, meta, pixels, tail, reply),
             Command::Remove { dims } => remove(&mut self.engine, rig, dims, reply),
             Command::List => push_list(&self.engine, reply),
             Command::Info => push_info(&self.engine, reply),
             Command::Map => push_map(&self.engine, reply),
             Command::Check => push_check(&self.engine, reply),
+            Command::Long { len, limit } => push_long(*len, *limit, reply),
         }
     }
 

@@ -1,17 +1,35 @@
-//! The replies to edits that are refused.
+//! The replies to edits.
 
-ghost use Rattle.std.specs.Prelude.{◌≡◌, ◌++◌, Some, OnOk};
+ghost use Rattle.std.specs.Prelude.{◌≡◌, ◌+◌, ◌≤◌, ◌++◌, Some, IfErr, OnOk, vec_len, vec_capacity};
 ghost use Rattle.czi_machine.specs.Edit.{Refusal};
 ghost use Rattle.czi_rig.specs.Faults.{fault_at};
 ghost use Rattle.czi_session.specs.Stops.{editor_device};
 ghost use Rattle.czi_engine.specs.Devices.{edit_device};
 ghost use Rattle.czi_engine.specs.Editing.{refusal_of};
 ghost use Rattle.czi_report.specs.Replies.{no_line};
+ghost use Rattle.czi_editor.specs.Performs.{IsReplied};
 
 use czi_engine::EditError;
-use czi_report::{push_no_full, push_no_key};
+use czi_report::{
+    push_no_duplicate, push_no_full, push_no_key, push_no_long, push_no_many, push_ok,
+};
 use czi_session::EditorStop;
 use std::alloc::AllocError;
+
+/// More bytes than a reply to an edit has: a word, two numbers of at most 20 digits, and spaces.
+const LONGEST_REPLY: usize = 64;
+
+/// Takes memory for the reply to an edit. That is done first, so that an edit that was done is told.
+pub(crate) fn take_room(reply: &mut Vec<u8>) -> Result<(), EditorStop>
+    ensures kept { OnOk result (reply.new.items ≡ reply.old.items) }
+    ensures room { OnOk result (vec_len reply.new + LONGEST_REPLY ≤ vec_capacity reply.new) }
+    ensures stopped { IfErr result (λ stop. stop ≡ EditorStop.Memory) }
+{
+    match reply.reserve(LONGEST_REPLY) {
+        Ok(()) => Ok(()),
+        Err(AllocError) => Err(EditorStop::Memory),
+    }
+}
 
 /// Appends the reply of an edit that was refused. A fault of a device and want of memory are no refusals: they stop the run.
 pub(crate) fn push_no(error: &EditError, reply: &mut Vec<u8>) -> Result<(), EditorStop>
@@ -19,7 +37,10 @@ pub(crate) fn push_no(error: &EditError, reply: &mut Vec<u8>) -> Result<(), Edit
     ensures device { fault_at editor_device result ≡ edit_device error.now }
 {
     let pushed = match *error {
+        EditError::TooLong { len, limit } => push_no_long(len, limit, reply),
         EditError::NoKey => push_no_key(reply),
+        EditError::Duplicate(place) => push_no_duplicate(place, reply),
+        EditError::TooMany(count) => push_no_many(count, reply),
         EditError::Full { need, length } => push_no_full(need, length, reply),
         EditError::Memory => return Err(EditorStop::Memory),
         EditError::ImageDevice => return Err(EditorStop::Image),
@@ -28,5 +49,22 @@ pub(crate) fn push_no(error: &EditError, reply: &mut Vec<u8>) -> Result<(), Edit
     match pushed {
         Ok(()) => Ok(()),
         Err(AllocError) => Err(EditorStop::Memory),
+    }
+}
+
+/// Appends the reply to what an edit answered. Where it was accepted, the room that was taken suffices.
+pub(crate) fn push_answer(
+    answer: Result<u64, EditError>,
+    reply: &mut Vec<u8>,
+) -> Result<(), EditorStop>
+    requires room { vec_len reply.old + LONGEST_REPLY ≤ vec_capacity reply.old }
+    ensures { IsReplied answer reply.old.items reply.new.items result }
+{
+    match answer {
+        Ok(number) => match push_ok(number, reply) {
+            Ok(()) => Ok(()),
+            Err(AllocError) => unreachable!(),
+        },
+        Err(error) => push_no(&error, reply),
     }
 }

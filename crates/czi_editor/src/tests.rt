@@ -82,8 +82,17 @@ fn each_refusal_is_a_line(rt: HostRuntime) -> Result<(), Fail> {
 }
 
 // The errors of an edit, and what is answered.
-static ANSWERS: [(EditError, Result<(), EditorStop>); 5] = [
+static ANSWERS: [(EditError, Result<(), EditorStop>); 8] = [
+    (
+        EditError::TooLong {
+            len: 67_108_865,
+            limit: 67_108_864,
+        },
+        Ok(()),
+    ),
     (EditError::NoKey, Ok(())),
+    (EditError::Duplicate(1_048_575), Ok(())),
+    (EditError::TooMany(1_048_576), Ok(())),
     (
         EditError::Full {
             need: 160,
@@ -103,7 +112,8 @@ fn each_reply_is_a_line(rt: HostRuntime) -> Result<(), Fail> {
     for (error, answer) in ANSWERS.iter() {
         assert!(rt; push_no(error, &mut reply) == *answer);
     }
-    let lines = b"ok 18446744073709551615\nno key\nno full 160 1099511627700\n".as_slice();
+    let lines =
+        b"ok 18446744073709551615\nno long 67108865 67108864\nno key\nno duplicate 1048575\nno many 1048576\nno full 160 1099511627700\n".as_slice();
     assert!(rt; reply.as_slice() == lines);
     Ok(())
 }

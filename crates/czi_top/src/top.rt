@@ -117,8 +117,8 @@ pub fn run<R: Rig, S: Source>(alloc: Global, words: &[String], rig: &mut R, inpu
 
     // At every moment of `run`, whatever a crash then leaves on image and journal opens again to the state that some prefix of
     // the commands gives, the prefix holding every command whose reply had been said; what was said are those replies, a front
-    // of the next text, and nothing else; and each item of that state has the bytes that it had at the start. From the return
-    // of opening on, the image alone, read without its journal, waits for it or shows the document of that state, or of the one
+    // of the next text, and nothing else; and each item of that state that was there at the start has the bytes that it had then.
+    // From the return of opening on, the image alone, read without its journal, waits for it or shows the document of that state, or of the one
     // before. (Until opening has made both files durable, a crash leaves nothing that it couldn't have left at the start. Only
     // where a file fails before, with 4 or 5, that is all. Where the files don't open, with 4, 5 or 8, what is left from then on
     // opens to the state at the start, with nothing said.)

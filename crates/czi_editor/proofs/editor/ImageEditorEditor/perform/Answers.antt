@@ -2,15 +2,34 @@ use Rattle.std.proofs.Common.{◌++◌, ℕ, List, ap, ◌∙◌}
 use Rattle.std.proofs.lemmas.Result.{on_ok_weaker}
 use Rattle.czi_report.specs.Text.{info_text}
 use Rattle.czi_report.proofs.Described.{details_state, lists_state}
-use Rattle.czi_editor.proofs.Editing.{both_ok, unasked_alike}
+use Rattle.czi_editor.proofs.Editing.{unasked_alike}
 use Rattle.czi_editor.proofs.Mapped.{maps_state}
+use Rattle.czi_editor.proofs.Performing.{performed_ok}
 use Rattle.czi_editor.proofs.editor.ImageEditorEditor.perform.Goals as goal
+
+pub returns-in-Add-clause-moments : goal.returns-in-Add-clause-moments
+returns-in-Add-clause-moments g c = rw c.in-Add.is c.add.ensures.moments
+
+pub returns-in-Add-clause-ok : goal.returns-in-Add-clause-ok
+returns-in-Add-clause-ok g c = rw c.in-Add.is (performed_ok c.add.ensures)
+
+pub returns-in-Add-clause-still : goal.returns-in-Add-clause-still
+returns-in-Add-clause-still g c = rw c.in-Add.is c.add.ensures.still
+
+pub returns-in-Replace-clause-moments : goal.returns-in-Replace-clause-moments
+returns-in-Replace-clause-moments g c = rw c.in-Replace.is c.replace.ensures.moments
+
+pub returns-in-Replace-clause-ok : goal.returns-in-Replace-clause-ok
+returns-in-Replace-clause-ok g c = rw c.in-Replace.is (performed_ok c.replace.ensures)
+
+pub returns-in-Replace-clause-still : goal.returns-in-Replace-clause-still
+returns-in-Replace-clause-still g c = rw c.in-Replace.is c.replace.ensures.still
 
 pub returns-in-Remove-clause-moments : goal.returns-in-Remove-clause-moments
 returns-in-Remove-clause-moments g c = rw c.in-Remove.is c.remove.ensures.moments
 
 pub returns-in-Remove-clause-ok : goal.returns-in-Remove-clause-ok
-returns-in-Remove-clause-ok g c = rw c.in-Remove.is (both_ok c.remove.result (λ replied stands said b h. (replied said b h, stands said b h)) c.remove.ensures.replied c.remove.ensures.stands)
+returns-in-Remove-clause-ok g c = rw c.in-Remove.is (performed_ok c.remove.ensures)
 
 pub returns-in-Remove-clause-still : goal.returns-in-Remove-clause-still
 returns-in-Remove-clause-still g c = rw c.in-Remove.is c.remove.ensures.still
@@ -38,6 +57,12 @@ returns-in-Map-clause-ok g c = rw c.in-Map.is (on_ok_weaker c.push_map.result (�
 
 pub returns-in-Check-clause-ok : goal.returns-in-Check-clause-ok
 returns-in-Check-clause-ok g c = rw c.in-Check.is (on_ok_weaker c.push_check.result (λ says said b h. (says b.state.layout h.stands.has.lies, h)) c.push_check.ensures.said)
+
+pub returns-in-Long-clause-ok : goal.returns-in-Long-clause-ok
+returns-in-Long-clause-ok g c = rw c.in-Long.is (on_ok_weaker c.push_long.result (λ says said b h. (says, h)) c.push_long.ensures.said)
+
+pub returns-in-Long-clause-alike : goal.returns-in-Long-clause-alike
+returns-in-Long-clause-alike g c said b h = unasked_alike g.R.Rig g.met.R.Rig.only_now c.args.self.now.engine c.args.rig.now said b h
 
 pub returns-in-List-clause-alike : goal.returns-in-List-clause-alike
 returns-in-List-clause-alike g c said b h = unasked_alike g.R.Rig g.met.R.Rig.only_now c.args.self.now.engine c.args.rig.now said b h
