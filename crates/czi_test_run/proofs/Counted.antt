@@ -7,12 +7,12 @@ use Rattle.czi_rig.specs.declared.rig.Rig.{Ghosts}
 use Rattle.czi_rig.specs.declared.file.File.TheVariants.{Image}
 use Rattle.czi_rig.specs.Disk.{Disk, at_rest, overwritten}
 use Rattle.czi_rig.specs.State.{State, Instant, SameAll, LeavesOther, known, seen_of}
-use Rattle.czi_rig.specs.Moments.{Devices, Run, OnlyNow}
+use Rattle.czi_rig.specs.Moments.{Devices, Run, OnlyNow, FromSomeMoment}
 use Rattle.czi_rig.proofs.Files.{left_settled}
 use Rattle.czi_rig.proofs.Known.{same_known, file_known, known_file, known_seen}
 use Rattle.czi_rig.proofs.Runs.{started, always}
 use Rattle.czi_rig.proofs.Spans.{each_two, one_span}
-use Rattle.czi_session.specs.Course.{AlikeFrom, Opening, Stands, Open, From}
+use Rattle.czi_session.specs.Course.{AlikeFrom, Opening, Stands, Open}
 use Rattle.czi_test_run.specs.Counting.{counting, Counts}
 
 abbrev pub No : Instant
@@ -22,7 +22,7 @@ abbrev pub resting : Devices → Devices
 resting all = record { image = at_rest all.image.seen; journal = at_rest all.journal.seen; said = all.said }
 
 module _ {D : Type 0} (rig : Ghosts D) (only : OnlyNow rig) (old new : D) (said : List ℕ) (s : ℕ) (h : Opening counting (rig.state old) said s) (r : Run rig old new (resting h.now) No) where
-  pub opened : From rig old new (Open counting s said)
+  pub opened : FromSomeMoment rig old new (Open counting s said)
   opened = record {
     then = new;
     before = r.moments;

@@ -136,10 +136,11 @@ fn changed(alloc: Global, bytes: &[u8], part: Part) -> Result<Vec<u8>, AllocErro
     Ok(changed)
 }
 
-const NONE: Part = (0, b"");
+/// Nothing is written over a file.
+pub(crate) const NONE: Part = (0, b"");
 
-// How long the image is made, what is written over the image and over the journal, and what `list` answers then.
-type Misfit = (usize, Part, Part, u8, &'static [u8]);
+/// How long the image is made, what is written over the image and over the journal, and what `list` answers then.
+pub(crate) type Misfit = (usize, Part, Part, u8, &'static [u8]);
 
 static MISFITS: [Misfit; 6] = [
     (1280, NONE, NONE, 0, NO_TILES),
@@ -162,7 +163,8 @@ static MISFITS: [Misfit; 6] = [
     ),
 ];
 
-fn check_misfit(
+/// What `list` answers of the files that a run has left, once they were changed.
+pub(crate) fn check_misfit(
     rt: &impl Abort,
     alloc: Global,
     rig: &MemRig,
