@@ -1,8 +1,9 @@
 #!/usr/bin/env python3
-"""Makes the script of bench/edit.sh, and counts the calls of a traced run.
+"""Makes the script of bench/edit.sh, counts the calls of a traced run, and makes a plan to replay them.
 
 usage: count_calls.py script TILES REMOVALS [LAST]   prints the script
        count_calls.py count FILE REMOVALS            counts the calls in strace's output, of opening and of each removal
+       count_calls.py plan FILE                      prints the calls on image, journal and standard input, for replay.c
 """
 import re
 import sys
@@ -38,8 +39,25 @@ def count(path, removals):
     print(f"written: image {written['image']} bytes, journal {written['journal']} bytes")
 
 
+def plan(path):
+    kinds = {"read": "take", "pread64": "read", "pwrite64": "write", "fsync": "sync", "ftruncate": "cut"}
+    for line in open(path):
+        found = re.search(r"(read|pread64|pwrite64|fsync|ftruncate)\((\d+)<([^>]*)>(.*)", line)
+        if not found:
+            continue
+        kind, number, name, rest = found.groups()
+        file = "s" if number == "0" else "j" if name.endswith(".jrn") else "i" if name.endswith(".czi") else None
+        if file is None or (kind == "read") != (file == "s"):
+            continue
+        arguments = [int(n) for n in re.findall(r", (\d+)(?=[,)])", rest)]
+        length, place = (arguments + [0, 0])[:2]
+        print(kinds[kind], file, length, place)
+
+
 if __name__ == "__main__":
-    if sys.argv[1] == "script":
+    if sys.argv[1] == "plan":
+        plan(sys.argv[2])
+    elif sys.argv[1] == "script":
         tiles = int(sys.argv[2])
         script(tiles, int(sys.argv[3]), int(sys.argv[4]) if len(sys.argv) > 4 else tiles)
     else:

@@ -3,8 +3,9 @@
 
 usage: faults.py
 
-The script removes two tiles of crates/czi_tool/data/image.czi. After each run the file is listed: it has to be the document after as many
-removals as replies were said, or one more. Calls of the program's start (of the loader) are counted too.
+The script removes a tile of crates/czi_tool/data/image.czi, adds one and replaces another. After each run the file is listed: it has
+to be the document after as many commands as replies were said, or one more. Calls of the program's start (of the loader) are counted
+too.
 """
 import collections
 import os
@@ -16,7 +17,11 @@ import tempfile
 HERE = os.path.dirname(os.path.abspath(__file__))
 TOOL = os.environ.get("CZI_TOOL") or os.path.join(HERE, "..", "crates", "czi_tool", "out", "czi_tool")
 SAMPLE = os.path.join(HERE, "..", "crates", "czi_tool", "data", "image.czi")
-REMOVALS = [b"remove dims=X0:16,Y0:16,C0,S0\n", b"remove dims=X0:32:16,Y0:16:8,C0\n"]
+COMMANDS = [
+    b"remove dims=X0:16,Y0:16,C0,S0\n",
+    b"add pixel=0 dims=X32:16,Y0:16,C0,S1 meta=5 data=256 att=0\n<m/>\n" + bytes(range(256)) + b"\n",
+    b"replace pixel=1 dims=X0:32:16,Y0:16:8,C0 meta=0 data=256 att=3\n" + bytes(range(255, -1, -1)) + b"att\n",
+]
 
 
 def fresh(path):
@@ -31,11 +36,11 @@ def listed(path):
 
 
 def documents(path):
-    """What is listed after each number of removals."""
-    fresh(path)
-    lists = [listed(path)]
-    for removal in REMOVALS:
-        subprocess.run([TOOL, path, "edit"], input=removal, stdout=subprocess.DEVNULL, check=True)
+    """What is listed after each number of commands."""
+    lists = []
+    for count in range(len(COMMANDS) + 1):
+        fresh(path)
+        subprocess.run([TOOL, path, "edit"], input=b"".join(COMMANDS[:count]), stdout=subprocess.DEVNULL, check=True)
         lists.append(listed(path))
     return lists
 
@@ -45,7 +50,7 @@ def injected(path, call, fault, number):
     trace = path + ".trace"
     rule = f"inject={call}:{fault}:when={number}"
     words = ["strace", "-f", "-o", trace, "-e", f"trace={call}", "-e", rule, TOOL, path, "edit"]
-    ran = subprocess.run(words, input=b"".join(REMOVALS), stdout=subprocess.PIPE, stderr=subprocess.DEVNULL)
+    ran = subprocess.run(words, input=b"".join(COMMANDS), stdout=subprocess.PIPE, stderr=subprocess.DEVNULL)
     with open(trace) as file:
         told = file.read()
     return (ran.returncode, ran.stdout) if "INJECTED" in told or "SIGKILL" in told else None
