@@ -7,6 +7,7 @@ ghost use Rattle.czi_doc.specs.View.{att_of};
 ghost use Rattle.czi_att.specs.View.{a1_of};
 
 use czi_doc::AttInfo;
+use czi_format::A1_LEN;
 use czi_num::{read_bytes, read_i64, write_bytes, write_i64};
 
 /// The attachment entry in 128 bytes, and FilePosition, the place of the attachment's segment. Its
@@ -14,7 +15,7 @@ use czi_num::{read_bytes, read_i64, write_bytes, write_i64};
 ///
 /// None exactly where the bytes don't begin with `A1`.
 #[tactic(auto, unfolding(czi_format::specs::Entry::a1))]
-pub fn read_a1(bytes: &[u8; 128]) -> Option<(AttInfo, i64)>
+pub fn read_a1(bytes: &[u8; A1_LEN]) -> Option<(AttInfo, i64)>
     ensures read { option_map a1_of result ≡ a1 bytes.now }
     ensures schema { is_some result ≡ bytes_eq (bytes_at bytes.now 0 2) (codes "A1") }
 {
@@ -30,12 +31,12 @@ pub fn read_a1(bytes: &[u8; 128]) -> Option<(AttInfo, i64)>
 }
 
 /// The 128 bytes of an attachment entry. Its reserved bytes and FilePart are 0.
-pub fn write_a1(info: &AttInfo, position: i64) -> [u8; 128]
+pub fn write_a1(info: &AttInfo, position: i64) -> [u8; A1_LEN]
     ensures written { result ≡ a1_bytes (record { info = att_of info.now; position = position }) }
     ensures own { IsA1 (record { info = att_of info.now; position = position }) }
     ensures reads_back { (rest : List ℕ) → a1 (result ++ rest) ≡ Some (record { info = att_of info.now; position = position }) }
 {
-    let mut bytes = [0u8; 128];
+    let mut bytes = [0u8; A1_LEN];
     write_bytes(&mut bytes, 0, b"A1");
     write_i64(&mut bytes, 12, position);
     write_bytes(&mut bytes, 24, &info.guid);

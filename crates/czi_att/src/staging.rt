@@ -12,6 +12,7 @@ ghost use Rattle.czi_att.specs.Staged.{att_length};
 
 use crate::entry::write_a1;
 use czi_doc::{AttInfo, DATA_LIMIT};
+use czi_format::CONTENTS;
 use czi_num::{round32, write_bytes, write_u32};
 use czi_region::{Piece, Region, whole_piece};
 
@@ -20,9 +21,6 @@ const DATA_SIZE: usize = 0;
 
 /// The place of the attachment's own entry in the data.
 const OWN_ENTRY: usize = 16;
-
-/// The place of the attachment's bytes in the data.
-const CONTENTS: usize = 256;
 
 /// How long the data of an attachment of `n` bytes is, padded to a multiple of 32. `n` is within the limit of
 /// an edit.

@@ -3,18 +3,19 @@ use Rattle.std.specs.Prelude.{◌≡◌, ℕ, ◌+◌, ◌-◌, pos, List, ◌++
 use Rattle.czi_format.specs.Bytes.{i32_bytes, i64_bytes}
 use Rattle.czi_format.specs.Document.{Subblock}
 use Rattle.czi_format.specs.Entry.{Entry, entry_bytes, entry_len}
+use Rattle.czi_format.specs.declared.numbers.TheConstants.{CONTENTS}
 
 -- how long subblock data is without padding, from the lengths of its own entry and of its contents
 abbrev pub sub_length : ℕ → ℕ → ℕ → ℕ → ℕ
-sub_length entry meta pixels tail = max 256 (16 + entry) + meta + pixels + tail
+sub_length entry meta pixels tail = max CONTENTS (16 + entry) + meta + pixels + tail
 
 -- the same of the metadata
 abbrev pub meta_length : ℕ → ℕ → ℕ
-meta_length xml tail = 256 + xml + tail
+meta_length xml tail = CONTENTS + xml + tail
 
 -- the front of subblock data: three lengths, the bytes of its own entry, and zeros up to where the contents begin
 abbrev pub sub_front : List ℕ → ℕ → ℕ → ℕ → List ℕ
-sub_front entry meta pixels tail = i32_bytes (pos meta) ++ (i32_bytes (pos tail) ++ (i64_bytes (pos pixels) ++ (entry ++ replicate (256 - (16 + length entry)) 0)))
+sub_front entry meta pixels tail = i32_bytes (pos meta) ++ (i32_bytes (pos tail) ++ (i64_bytes (pos pixels) ++ (entry ++ replicate (CONTENTS - (16 + length entry)) 0)))
 
 -- subblock data, whatever its own entry's bytes are
 abbrev pub sub_data : List ℕ → List ℕ → List ℕ → List ℕ → ℕ → List ℕ

@@ -5,7 +5,8 @@ ghost use Rattle.czi_format.specs.Contents.{meta_head, sub_head};
 ghost use Rattle.czi_format.specs.Partial.{natural};
 ghost use Rattle.czi_body.specs.View.{meta_head_of, sub_head_of};
 
-use crate::places::{CONTENTS, META_SIZE, OWN_COUNT, OWN_ENTRY, PIXELS_SIZE, TAIL_SIZE, XML_SIZE};
+use crate::places::{META_SIZE, OWN_COUNT, OWN_ENTRY, PIXELS_SIZE, TAIL_SIZE, XML_SIZE};
+use czi_format::CONTENTS;
 use czi_num::{read_i32, read_i64};
 
 /// The front of subblock data: how long its contents are, in bytes, and where they begin in the data.

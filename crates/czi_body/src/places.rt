@@ -17,6 +17,3 @@ pub(crate) const OWN_ENTRY: usize = 16;
 
 /// The number of dimension records in it, in four bytes.
 pub(crate) const OWN_COUNT: usize = 44;
-
-/// The contents, at the earliest. Those of a subblock don't begin within its own entry.
-pub(crate) const CONTENTS: usize = 256;

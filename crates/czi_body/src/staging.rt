@@ -10,8 +10,9 @@ ghost use Rattle.czi_num.specs.Padding.{fill};
 ghost use Rattle.czi_region.specs.Pieces.{PutsPiece, bytes_put, room};
 ghost use Rattle.czi_body.specs.Staged.{AreParts, meta_length, sub_data, sub_front, sub_length};
 
-use crate::places::{CONTENTS, META_SIZE, OWN_ENTRY, PIXELS_SIZE, TAIL_SIZE, XML_SIZE};
+use crate::places::{META_SIZE, OWN_ENTRY, PIXELS_SIZE, TAIL_SIZE, XML_SIZE};
 use czi_doc::{DATA_LIMIT, TEXT_LIMIT};
+use czi_format::CONTENTS;
 use czi_num::{round32, write_u32, write_u64};
 use czi_region::{Piece, Region, whole_piece};
 

@@ -10,6 +10,7 @@ use Rattle.czi_vault.specs.Recovered.{applied, with_links}
 use Rattle.czi_plan.specs.declared.plan.EditPlan.{EditPlan}
 use Rattle.czi_commit.specs.Filled.{LeaveHeader, filled}
 use Rattle.czi_plan.specs.Pieces.{AreNear, last_end, writes_of}
+use Rattle.czi_links.specs.declared.numbers.TheConstants.{SLOT_LEN}
 
 -- what a command writes before its commit, and the record that it commits
 pub record Step : Type 0 where
@@ -30,7 +31,7 @@ pub record Fits (n : ℕ) (c : Step) : Type 0 where
   pub least : 112 ≤ c.commits.committed
   pub long : c.commits.committed ≤ last_end n c.writes
   pub ends : EndWithin c.commits.committed c.commits.links
-  pub brief : encoded_len c.commits.links ≤ 262144
+  pub brief : encoded_len c.commits.links ≤ SLOT_LEN
 
 -- all that it writes is there
 abbrev pub IsStaged : Region → EditPlan → Type 0

@@ -12,13 +12,14 @@ use Rattle.czi_opening.specs.Answers.{IsJournal}
 use Rattle.czi_plan.specs.declared.plan.EditPlan.{EditPlan}
 use Rattle.czi_region.specs.declared.block.Region.{Region}
 use Rattle.czi_commit.specs.Made.{Fits, IsStaged, step_of}
+use Rattle.czi_format.specs.declared.numbers.TheConstants.{FILE_GUID, UPDATE_PENDING}
 
 -- the image is at rest and is this file, and its byte 100 says that it waits for no journal
 pub record IsReady (file : SlotHead) (image : Disk) : Type 0 where
   pub rest : IsAtRest image
   pub long : length image.seen ≡ file.length
-  pub guid : take 16 (drop 64 image.seen) ≡ file.guid
-  pub ready : slice_index image.seen 100 ≡ 0
+  pub guid : take 16 (drop FILE_GUID image.seen) ≡ file.guid
+  pub ready : slice_index image.seen UPDATE_PENDING ≡ 0
 
 -- whatever a crash now leaves of the journal counts
 abbrev pub JournalCounts : Devices → Type 0
@@ -29,7 +30,7 @@ JournalCounts all = (journal : List ℕ) → Left all.journal.durable journal �
 pub record CanCarry (s : State) (slots : JournalState) (file : SlotHead) (region : Region) (plan : EditPlan) : Type 0 where
   pub rest : ForSome (known s Image) IsAtRest
   pub whole : ForSome (seen_of s Image) (λ seen. length seen ≡ file.length)
-  pub guid : ForSome (seen_of s Image) (λ seen. take 16 (drop 64 seen) ≡ file.guid)
+  pub guid : ForSome (seen_of s Image) (λ seen. take 16 (drop FILE_GUID seen) ≡ file.guid)
   pub journal : ForSome (known s Journal) (Everywhere (IsJournal slots))
   pub idle : slots.armed ≡ false → ForSome (known s Journal) IsAtRest
   pub staged : IsStaged region plan

@@ -19,7 +19,7 @@ ghost use Rattle.czi_commit.specs.Ready.{CanCarry, IsReady};
 
 use crate::filling::fill;
 use czi_journal::{Journal, create};
-use czi_links::SlotHead;
+use czi_links::{LEAST_LENGTH, SLOT_LEN, SlotHead};
 use czi_plan::EditPlan;
 use czi_region::Region;
 use czi_rig::{Failed, File, Rig};
@@ -34,9 +34,9 @@ fn arm<R: Rig>(
 ) -> Result<(), Failed>
     requires journal { ForSome (known (R.state rig.old) File.Journal) (Everywhere (IsJournal journal.old)) }
     requires idle { journal.old.armed ≡ false → ForSome (known (R.state rig.old) File.Journal) IsAtRest }
-    requires least { 112 ≤ file.now.length }
+    requires least { LEAST_LENGTH ≤ file.now.length }
     requires greatest { file.now.length ≤ 2 ^ 62 }
-    requires buffer { length buffer.old ≡ 262144 }
+    requires buffer { length buffer.old ≡ SLOT_LEN }
 
     ensures moments { ForSome (devices (R.state rig.old)) (λ all. (view : View) → KeepsNow view all → IsReady file.now all.image
         → Throughout R.Rig rig.old rig.new (λ image j said. Keeps view image j × (said ≡ all.said))) }
@@ -66,7 +66,7 @@ pub fn carry_out<R: Rig>(
     buffer: &mut [u8],
 ) -> Result<(), VaultFault>
     requires ready { CanCarry (R.state rig.old) journal.old file.now region.now plan.now }
-    requires buffer { length buffer.old ≡ 262144 }
+    requires buffer { length buffer.old ≡ SLOT_LEN }
 
     // At every moment the files stand for what they stood for, or for the new image; and read alone the image waits for the
     // journal, or is the old one, or the new one once the files stand for that.

@@ -6,14 +6,13 @@ mod fault;
 mod items;
 mod key_number;
 mod keys;
-mod limits;
 mod reading;
 mod writing;
 
+pub use czi_format::{DATA_LIMIT, TEXT_LIMIT};
 pub use dimensions::{Dim, Dims, ItemFault};
 pub use fault::TextFault;
 pub use items::{AttInfo, Bytes, EntryInfo};
 pub use keys::{Key, equal_keys};
-pub use limits::{DATA_LIMIT, TEXT_LIMIT};
 pub use reading::{read_dims, read_integer, read_natural};
 pub use writing::{write_dims, write_name};

@@ -9,10 +9,10 @@ use Rattle.czi_doc.specs.declared.dimensions.ItemFault.{ItemFault}
 use Rattle.czi_doc.specs.declared.dimensions.ItemFault.TheVariants.{NoDims, ManyDims}
 use Rattle.czi_dv.specs.declared.entry.EntryFault.{EntryFault}
 use Rattle.czi_dv.specs.declared.entry.EntryFault.TheVariants.{Short, Schema, Dims, Part, Memory}
-use Rattle.czi_dv.specs.View.{Refuses}
+use Rattle.czi_dv.specs.View.{TellsEntryRule}
 
 -- where a rule refuses, no entry stands
-pub no_entry : (bytes : List ℕ) (fault : EntryFault) → Refuses bytes fault → (fault ≡ Memory) ⊎ (entry bytes ≡ None)
+pub no_entry : (bytes : List ℕ) (fault : EntryFault) → TellsEntryRule bytes fault → (fault ≡ Memory) ⊎ (entry bytes ≡ None)
 no_entry bytes Short refuses = inr (refused_none bytes refusal.short refuses)
 no_entry bytes Schema refuses = inr (refused_none bytes refusal.schema refuses)
 no_entry bytes (Dims count) refuses = inr (refused_none bytes (refusal.dims count) refuses)

@@ -19,9 +19,9 @@ fault_of (rules.dims count) = Dims count
 fault_of (rules.part part) = Part part
 
 -- the fault tells the first rule that fails
-abbrev pub Refuses : List ℕ → EntryFault → Type 0
-Refuses bytes Short = entry_rules bytes ≡ Err rules.short
-Refuses bytes Schema = entry_rules bytes ≡ Err rules.schema
-Refuses bytes (Dims count) = entry_rules bytes ≡ Err (rules.dims count)
-Refuses bytes (Part part) = entry_rules bytes ≡ Err (rules.part part)
-Refuses bytes Memory = ⊥
+abbrev pub TellsEntryRule : List ℕ → EntryFault → Type 0
+TellsEntryRule bytes Short = entry_rules bytes ≡ Err rules.short
+TellsEntryRule bytes Schema = entry_rules bytes ≡ Err rules.schema
+TellsEntryRule bytes (Dims count) = entry_rules bytes ≡ Err (rules.dims count)
+TellsEntryRule bytes (Part part) = entry_rules bytes ≡ Err (rules.part part)
+TellsEntryRule bytes Memory = ⊥

@@ -5,7 +5,7 @@ ghost use Rattle.czi_format.specs.Bytes.{bytes_at};
 ghost use Rattle.czi_format.specs.Entry.{EntryBytes, dim, dims, entry, entry_len, with_records};
 ghost use Rattle.czi_format.specs.EntryRules.{EntryRefusal, entry_rules, record_count};
 ghost use Rattle.czi_doc.specs.View.{dim_of, info_of};
-ghost use Rattle.czi_dv.specs.View.{Refuses, entry_of, fault_of};
+ghost use Rattle.czi_dv.specs.View.{TellsEntryRule, entry_of, fault_of};
 
 use crate::entry::{Entry, EntryFault};
 use czi_doc::{Dim, Dims, EntryInfo};
@@ -39,7 +39,7 @@ fn read_count(bytes: &[u8]) -> Result<usize, EntryFault>
     ensures count { IfOk result (λ n. entry_rules bytes.now ≡ Ok n) }
     ensures few { IfOk result (λ n. (1 ≤ n) × (n ≤ 40)) }
     ensures fits { IfOk result (λ n. 32 + 20 * n ≤ length bytes.now) }
-    ensures refused { IfErr result (Refuses bytes.now) }
+    ensures refused { IfErr result (TellsEntryRule bytes.now) }
 {
     if bytes.len() < 32 {
         return Err(EntryFault::Short);

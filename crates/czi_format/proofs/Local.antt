@@ -15,7 +15,7 @@ use Rattle.czi_format.specs.Live.{Live, FileHeader, has_header_sizes, header_fie
 use Rattle.czi_format.specs.Span.{end_of, round32}
 use Rattle.czi_format.specs.Walk.{stands_at, next_from, WalksFrom}
 use Rattle.czi_format.specs.Same.{SameExtent, SameLive, SameStep, SameWalk}
-use Rattle.czi_format.proofs.Readings.{bind_some, given_some, IsHeader, header_is_read, read_header_is, Stands, segment_stands, both_true, stands_segment, IsSound, is_sound, sound_is}
+use Rattle.czi_format.proofs.Readings.{bind_some, given_some, IsHeader, header_is_read, read_header_is, Stands, segment_stands, both_true, stands_segment, IsSoundSegment, is_sound, sound_is}
 
 -- a part of a part
 pub part_of_part : (bytes : List ℕ) (at n k m : ℕ) → k + m ≤ n → bytes_at (bytes_at bytes at n) k m ≡ bytes_at bytes (at + k) m
@@ -88,7 +88,7 @@ stands_same_header a b s header inside found =
 pub sound_same : (a b : List ℕ) (id : List ℕ) (position : ℤ) (s : Segment) → sound_segment a id position ≡ Some s → SameExtent a b s
     → (sound_segment b id position ≡ Some s) × (data_of a s ≡ data_of b s)
 sound_same a b id position s found same =
-    let sound : IsSound a id position s = is_sound a id position s found in
+    let sound : IsSoundSegment a id position s = is_sound a id position s found in
     let stands : Stands a s.at s = segment_stands a s.at s sound.here in
     let inside : s.at + (32 + s.allocated) ≤ length b = part_inside a b s.at (32 + s.allocated) (omega arith) (omega (arith, stands.inside)) same in
     let header : bytes_at a s.at 32 ≡ bytes_at b s.at 32 = same_front a b s.at (32 + s.allocated) 32 same (omega arith) in

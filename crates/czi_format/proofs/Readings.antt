@@ -79,12 +79,12 @@ stands_segment image s stands =
     rw (found, fits)
 
 -- A sound segment of this id stands at a position.
-pub record IsSound (image : List ℕ) (id : List ℕ) (position : ℤ) (s : Segment) : Type 0 where
+pub record IsSoundSegment (image : List ℕ) (id : List ℕ) (position : ℤ) (s : Segment) : Type 0 where
   pub place : position ≡ pos s.at
   pub here : segment_at image s.at ≡ Some s
   pub test : (bytes_eq s.id id && nat_le s.used s.allocated) ≡ true
 
-pub is_sound : (image id : List ℕ) (position : ℤ) (s : Segment) → sound_segment image id position ≡ Some s → IsSound image id position s
+pub is_sound : (image id : List ℕ) (position : ℤ) (s : Segment) → sound_segment image id position ≡ Some s → IsSoundSegment image id position s
 unfolding sound_segment
 is_sound image id position s e =
     let a = bind_some (natural position) _ s e in
@@ -98,7 +98,7 @@ is_sound image id position s e =
       test = ap (λ (x : Segment). bytes_eq x.id id && nat_le x.used x.allocated) (sym g.1) ∙ g.0;
     }
 
-pub sound_is : (image id : List ℕ) (position : ℤ) (s : Segment) → IsSound image id position s → sound_segment image id position ≡ Some s
+pub sound_is : (image id : List ℕ) (position : ℤ) (s : Segment) → IsSoundSegment image id position s → sound_segment image id position ≡ Some s
 unfolding sound_segment
 sound_is image id position s sound =
     rw (sound.place, sound.here, sound.test)

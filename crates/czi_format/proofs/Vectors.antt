@@ -11,7 +11,10 @@ use Rattle.czi_format.specs.Live.{Live, FileHeader, file_header, Directory, dire
 use Rattle.czi_format.specs.Shows.{Reaches, Shows}
 use Rattle.czi_format.specs.Walk.{stands_at, IsWalk, is_name}
 use Rattle.czi_format.specs.Key.{key}
-use Rattle.czi_format.specs.Layout.{Layout, HasLayout, IsSteady}
+use Rattle.czi_format.specs.Layout.{Layout, HasLayout}
+use Rattle.czi_format.specs.Empty as Empty
+use Rattle.czi_format.specs.Empty.{empty_layout}
+use Rattle.czi_format.proofs.Empties.{empty_directory, empty_live, empty_walk}
 
 pub segment_header : String → ℕ → ℕ → List ℕ
 segment_header id allocated used = padded 16 id ++ (to_le_bytes w64 allocated ++ to_le_bytes w64 used)
@@ -32,64 +35,13 @@ empty_image = file 544 ++ (segment_header "ZISRAWDIRECTORY" 128 128 ++ replicate
 pub file_segment : Segment
 file_segment = record { at = 0; id = padded 16 "ZISRAWFILE"; allocated = 512; used = 512 }
 
-pub empty_directory : Directory
-empty_directory = record { segment = record { at = 544; id = padded 16 "ZISRAWDIRECTORY"; allocated = 128; used = 128 }; count = 0 }
-
 pub header_to : ℤ → FileHeader
 header_to dir = record { segment = file_segment; identity = identity; part = pos 0; directory = dir; metadata = pos 0; attachments = pos 0 }
 
-pub empty_live : Live
-empty_live = record { header = header_to (pos 544); directory = Some empty_directory; tiles = []; attdir = None; attachments = []; metadata = None }
-
-long : length empty_image ≡ 704
-unfolding empty_image segment_header identity guid file
-long = refl
-
-empty_reaches : Reaches empty_image empty_live
-unfolding empty_image empty_live header_to file_segment empty_directory segment_header identity guid file bytes_at byte_at i32_at i64_at segment_at header_at sound_segment in_segment file_id directory_id entry_count file_header directory
-empty_reaches = record {
-  header = refl;
-  part = refl;
-  directory = refl;
-  few = omega arith;
-  entries = refl;
-  tiles = refl;
-  attdir = refl;
-  few_attachments = omega arith;
-  a1_entries = refl;
-  attachments = refl;
-  metadata = refl;
-  disjoint = ((refl, tt), (tt, tt));
-}
-
-pub empty_document : Document
-empty_document = record { identity = identity; subblocks = []; attachments = []; metadata = None }
-
-pub empty_shows : Shows empty_image empty_document
-unfolding empty_document empty_live header_to
-empty_shows = (empty_live, empty_reaches, refl)
-
-empty_walk : List Segment
-empty_walk = file_segment ∷ empty_directory.segment ∷ []
-
--- the file header, the directory, and nothing else
-pub empty_layout : Layout
-empty_layout = record {
-  length = 704;
-  header = record { span = record { at = 0; len = 544 }; walked = true };
-  directory = Some (record { span = record { at = 544; len = 160 }; walked = true });
-  attdir = None;
-  metadata = None;
-  subblocks = [];
-  attachments = [];
-  walk_end = 704;
-  deleted = [];
-  unknown = [];
-}
-
-pub empty_has_layout : HasLayout empty_image empty_layout
-unfolding empty_image empty_live empty_layout empty_walk header_to file_segment empty_directory segment_header identity guid file bytes_at byte_at i32_at i64_at segment_at header_at file_id directory_id deleted_id stands_at
-empty_has_layout = (empty_live, empty_walk, empty_reaches, (refl, (refl, refl)), refl)
+-- it is the empty document's
+empty_is : empty_image ≡ Empty.empty_image guid
+unfolding empty_image Empty.empty_image segment_header identity guid file directory_id file_id
+empty_is = refl
 
 -- one tile of 4 by 2 bytes: C 0, X 0 to 3, Y 0 to 1
 dim_bytes : String → ℕ → List ℕ
@@ -174,23 +126,11 @@ pub tile_has_layout : HasLayout tile_image tile_layout
 unfolding tile_image tile_data tile_entry dim_bytes tile_live tile_layout tile_walk the_tile tile_directory header_to file_segment segment_header identity guid file bytes_at byte_at i32_at i64_at segment_at header_at file_id directory_id subblock_id deleted_id stands_at
 tile_has_layout = (tile_live, tile_walk, tile_reaches, (refl, (refl, (refl, (refl, refl)))), refl)
 
-empty_steady : IsSteady empty_image
-unfolding empty_image empty_live empty_walk header_to file_segment empty_directory segment_header identity guid file bytes_at byte_at i32_at i64_at segment_at header_at file_id directory_id stands_at
-empty_steady = record {
-  live = empty_live;
-  walk = empty_walk;
-  reaches = empty_reaches;
-  walks = (refl, (refl, refl));
-  whole = refl;
-  aligned = (refl, (refl, tt));
-  walked = (refl, (refl, tt));
-}
-
 -- the same image with 100 bytes of 0xFF behind it: the walk ends at 704
 pub tail_image : List ℕ
 tail_image = empty_image ++ replicate 100 0xFF
 
-tail_reaches : Reaches tail_image empty_live
+tail_reaches : Reaches tail_image (empty_live guid)
 unfolding tail_image empty_image empty_live header_to file_segment empty_directory segment_header identity guid file bytes_at byte_at i32_at i64_at segment_at header_at sound_segment in_segment file_id directory_id entry_count file_header directory
 tail_reaches = record {
   header = refl;
@@ -208,8 +148,8 @@ tail_reaches = record {
 }
 
 tail_has_layout : HasLayout tail_image (record empty_layout { length = 804 })
-unfolding tail_image empty_image empty_live empty_layout empty_walk header_to file_segment empty_directory segment_header identity guid file bytes_at byte_at i32_at i64_at segment_at header_at file_id directory_id deleted_id stands_at
-tail_has_layout = (empty_live, empty_walk, tail_reaches, (refl, (refl, refl)), refl)
+unfolding tail_image empty_image empty_live empty_walk header_to file_segment empty_directory segment_header identity guid file bytes_at byte_at i32_at i64_at segment_at header_at file_id directory_id deleted_id stands_at
+tail_has_layout = (empty_live guid, empty_walk, tail_reaches, (refl, (refl, refl)), refl)
 
 -- names of segments
 named : is_name (padded 16 "DELETED") ≡ true

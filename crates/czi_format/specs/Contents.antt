@@ -2,6 +2,7 @@
 use Rattle.std.specs.Prelude.{ℕ, ◌+◌, ◌*◌, ◌++◌, List, pos, replicate, max, nat_le, Option, Some}
 use Rattle.czi_format.specs.Bytes.{i32_at, i32_bytes, i64_at}
 use Rattle.czi_format.specs.Partial.{◌>>=◌, natural, given}
+use Rattle.czi_format.specs.declared.numbers.TheConstants.{CONTENTS}
 
 -- the front of subblock data: where the contents begin, and how long the metadata, the pixels and the attachment are
 pub record SubHead : Type 0 where
@@ -17,7 +18,7 @@ sub_head bytes = do
   tail ← natural (i32_at bytes 4)
   pixels ← natural (i64_at bytes 8)
   own ← natural (i32_at bytes 44)
-  given (nat_le own 40) (record { begin = max 256 (16 + 32 + 20 * own); meta = meta; pixels = pixels; tail = tail })
+  given (nat_le own 40) (record { begin = max CONTENTS (16 + 32 + 20 * own); meta = meta; pixels = pixels; tail = tail })
 
 abbrev pub sub_end : SubHead → ℕ
 sub_end h = h.begin + h.meta + h.pixels + h.tail
@@ -34,7 +35,7 @@ meta_head bytes = do
   Some (record { xml = xml; tail = tail })
 
 abbrev pub meta_end : MetaHead → ℕ
-meta_end h = 256 + h.xml + h.tail
+meta_end h = CONTENTS + h.xml + h.tail
 
 -- the front of attachment data: how long the attachment is
 unfoldable pub att_size : List ℕ → Option ℕ

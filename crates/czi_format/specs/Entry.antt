@@ -5,6 +5,7 @@ use Rattle.std.specs.Int.{w32, w64}
 use Rattle.std.specs.List.{AllByRecursion}
 use Rattle.czi_format.specs.Bytes.{IsBytes, bytes_at, byte_at, i32_at, i64_at, i32_bytes, i64_bytes}
 use Rattle.czi_format.specs.Partial.{◌>>=◌, natural, given}
+use Rattle.czi_format.specs.declared.numbers.TheConstants.{A1_LEN}
 
 -- one dimension of a subblock: its name, where it starts, its size, and the size as stored (0 reads as size)
 pub record Dim : Type 0 where
@@ -128,7 +129,7 @@ pub record A1 : Type 0 where
 
 -- the A1 entry at the front of the bytes; its reserved bytes and FilePart aren't looked at
 unfoldable pub a1 : List ℕ → Option A1
-a1 bytes = given (bytes_eq (bytes_at bytes 0 2) (codes "A1") && nat_le 128 (length bytes)) (record {
+a1 bytes = given (bytes_eq (bytes_at bytes 0 2) (codes "A1") && nat_le A1_LEN (length bytes)) (record {
   info = record {
     guid = bytes_at bytes 24 16;
     kind = bytes_at bytes 40 8;
@@ -138,7 +139,7 @@ a1 bytes = given (bytes_eq (bytes_at bytes 0 2) (codes "A1") && nat_le 128 (leng
 })
 
 abbrev pub a1_len : A1 → ℕ
-a1_len a = 128
+a1_len a = A1_LEN
 
 -- an A1 entry, written: the reserved bytes and FilePart are 0
 abbrev pub a1_bytes : A1 → List ℕ
@@ -148,8 +149,3 @@ a1_bytes a = codes "A1" ++ (replicate 10 0 ++ (i64_bytes a.position ++ (replicat
 pub record IsA1 (a : A1) : Type 0 where
   pub info : IsAttInfo a.info
   pub position : FitsSigned w64 a.position
-
--- these bytes are an A1 entry of an attachment with its segment at this position
-pub record A1Bytes (info : AttInfo) (position : ℤ) (bytes : List ℕ) : Type 0 where
-  pub reads : a1 bytes ≡ Some (record { info = info; position = position })
-  pub whole : length bytes ≡ 128

@@ -7,6 +7,7 @@ use Rattle.czi_format.specs.Segment.{Segment, header_at, header_bytes, data_of, 
 use Rattle.czi_format.specs.Entry.{Entry, A1}
 use Rattle.czi_format.specs.Contents.{SubHead, sub_head, sub_end, MetaHead, meta_head, meta_end, att_size, entry_count}
 use Rattle.czi_format.specs.Document.{Document, Subblock, Attachment, Metadata}
+use Rattle.czi_format.specs.declared.numbers.TheConstants.{UPDATE_PENDING, LEAST_HEADER_DATA, FILE_PART, DIRECTORY_POSITION, METADATA_POSITION, ATTDIR_POSITION, HEADER_FRONT, DIRECTORY_FRONT, ATTDIR_FRONT, A1_LEN, CONTENTS}
 
 pub record FileHeader : Type 0 where
   pub segment : Segment
@@ -18,28 +19,28 @@ pub record FileHeader : Type 0 where
 
 -- UpdatePending, which no other rule looks at
 abbrev pub update_pending : List ℕ → ℤ
-update_pending image = i32_at image 100
+update_pending image = i32_at image UPDATE_PENDING
 
 -- at least 80 bytes of data, and sound sizes; a UsedSize of 0 reads as AllocatedSize
 abbrev pub has_header_sizes : Segment → Bool
-has_header_sizes s = nat_le 80 s.allocated && ((s.used == 0) || (nat_le 80 s.used && nat_le s.used s.allocated))
+has_header_sizes s = nat_le LEAST_HEADER_DATA s.allocated && ((s.used == 0) || (nat_le LEAST_HEADER_DATA s.used && nat_le s.used s.allocated))
 
 -- the fields of a file header, beside its segment
 abbrev pub header_fields : List ℕ → Segment → FileHeader
 header_fields bytes segment = record {
   segment = segment;
   identity = bytes_at bytes 32 52;
-  part = i32_at bytes 80;
-  directory = i64_at bytes 84;
-  metadata = i64_at bytes 92;
-  attachments = i64_at bytes 104;
+  part = i32_at bytes FILE_PART;
+  directory = i64_at bytes DIRECTORY_POSITION;
+  metadata = i64_at bytes METADATA_POSITION;
+  attachments = i64_at bytes ATTDIR_POSITION;
 }
 
 -- the file header at the front of the bytes; whether its extent lies in them isn't looked at
 abbrev pub front_header : List ℕ → Option FileHeader
 front_header bytes = do
   segment ← header_at bytes 0
-  given (nat_le 112 (length bytes) && bytes_eq segment.id file_id && has_header_sizes segment) (header_fields bytes segment)
+  given (nat_le HEADER_FRONT (length bytes) && bytes_eq segment.id file_id && has_header_sizes segment) (header_fields bytes segment)
 
 -- the file header at 0: its extent lies in the image
 unfoldable pub file_header : List ℕ → Option FileHeader
@@ -58,10 +59,10 @@ pub record FileHead : Type 0 where
 abbrev pub front_head : List ℕ → FileHead
 front_head bytes = record {
   identity = bytes_at bytes 32 52;
-  directory = i64_at bytes 84;
-  metadata = i64_at bytes 92;
-  pending = i32_at bytes 100;
-  attachments = i64_at bytes 104;
+  directory = i64_at bytes DIRECTORY_POSITION;
+  metadata = i64_at bytes METADATA_POSITION;
+  pending = i32_at bytes UPDATE_PENDING;
+  attachments = i64_at bytes ATTDIR_POSITION;
 }
 
 -- a file header of 512 bytes of data, written
@@ -94,13 +95,13 @@ pub record Directory : Type 0 where
 unfoldable pub directory : Segment → List ℕ → Option Directory
 directory segment bytes = do
   count ← entry_count bytes
-  given (nat_le 128 segment.allocated) (record { segment = segment; count = count })
+  given (nat_le DIRECTORY_FRONT segment.allocated) (record { segment = segment; count = count })
 
 -- the same with 256 bytes, and the entries end within AllocatedSize
 unfoldable pub attachment_directory : Segment → List ℕ → Option Directory
 attachment_directory segment bytes = do
   count ← entry_count bytes
-  given (nat_le (256 + 128 * count) segment.allocated) (record { segment = segment; count = count })
+  given (nat_le (ATTDIR_FRONT + A1_LEN * count) segment.allocated) (record { segment = segment; count = count })
 
 -- a subblock: its entry, its segment, and where its contents lie in the data
 pub record Tile : Type 0 where
@@ -123,7 +124,7 @@ pub record AttItem : Type 0 where
 unfoldable pub att_item : A1 → Segment → List ℕ → Option AttItem
 att_item entry segment bytes = do
   size ← att_size bytes
-  given (nat_le (256 + size) segment.allocated) (record { entry = entry; segment = segment; size = size })
+  given (nat_le (CONTENTS + size) segment.allocated) (record { entry = entry; segment = segment; size = size })
 
 -- the metadata: its segment, and how long the XML and its attachment are
 pub record MetaItem : Type 0 where
@@ -169,12 +170,12 @@ subblock_of image t = record {
     contents = data_of image t.segment
 
 abbrev pub attachment_of : List ℕ → AttItem → Attachment
-attachment_of image a = record { info = a.entry.info; bytes = bytes_at (data_of image a.segment) 256 a.size }
+attachment_of image a = record { info = a.entry.info; bytes = bytes_at (data_of image a.segment) CONTENTS a.size }
 
 abbrev pub metadata_of : List ℕ → MetaItem → Metadata
 metadata_of image m = record {
-  xml = bytes_at (data_of image m.segment) 256 m.head.xml;
-  tail = bytes_at (data_of image m.segment) (256 + m.head.xml) m.head.tail;
+  xml = bytes_at (data_of image m.segment) CONTENTS m.head.xml;
+  tail = bytes_at (data_of image m.segment) (CONTENTS + m.head.xml) m.head.tail;
 }
 
 abbrev pub document : List ℕ → Live → Document

@@ -6,6 +6,7 @@ use Rattle.czi_format.specs.Span.{end_of, round32}
 use Rattle.czi_format.specs.Segment.{Segment, extent}
 use Rattle.czi_format.specs.Live.{Live, reached}
 use Rattle.czi_format.specs.Walk.{stands_at}
+use Rattle.czi_format.specs.declared.numbers.TheConstants.{UPDATE_PENDING, ATTDIR_POSITION}
 
 -- the same bytes in a segment's whole extent
 abbrev pub SameExtent : List ℕ → List ℕ → Segment → Type 0
@@ -13,8 +14,8 @@ SameExtent image other s = bytes_at image s.at (32 + s.allocated) ≡ bytes_at o
 
 -- the same file header but for UpdatePending, at 100 to 103, and the same live segments
 pub record SameLive (image other : List ℕ) (live : Live) : Type 0 where
-  pub header : bytes_at image 0 100 ≡ bytes_at other 0 100
-  pub behind : bytes_at image 104 (32 + live.header.segment.allocated - 104) ≡ bytes_at other 104 (32 + live.header.segment.allocated - 104)
+  pub header : bytes_at image 0 UPDATE_PENDING ≡ bytes_at other 0 UPDATE_PENDING
+  pub behind : bytes_at image ATTDIR_POSITION (32 + live.header.segment.allocated - ATTDIR_POSITION) ≡ bytes_at other ATTDIR_POSITION (32 + live.header.segment.allocated - ATTDIR_POSITION)
   pub reached : AllByRecursion (SameExtent image other) (reached live)
 
 -- the same header at a place, and where none stands there, at the next multiple of 32

@@ -7,6 +7,7 @@ use Rattle.czi_format.specs.Segment.{extent, data_of, in_segment, directory_id, 
 use Rattle.czi_format.specs.Entry.{Entry, entry, entry_len, A1, a1, a1_len}
 use Rattle.czi_format.specs.Document.{Document}
 use Rattle.czi_format.specs.Live.{Live, Directory, Tile, AttItem, file_header, directory, attachment_directory, tile, att_item, meta_item, segments, document}
+use Rattle.czi_format.specs.declared.numbers.TheConstants.{DIRECTORY_ENTRIES, DIRECTORY_FRONT, ATTDIR_ENTRIES, ATTDIR_FRONT}
 
 -- how many entries a directory has
 abbrev pub count_of : Option Directory → ℕ
@@ -16,12 +17,12 @@ count_of (Some d) = d.count
 -- the entries of the directory, or the place of the first that isn't one
 abbrev pub entries : List ℕ → Option Directory → Result (List Entry) ℕ
 entries image None = Ok []
-entries image (Some d) = one_after_another entry entry_len (λ at. at) d.count (d.segment.at + 160) (drop 128 (data_of image d.segment))
+entries image (Some d) = one_after_another entry entry_len (λ at. at) d.count (d.segment.at + DIRECTORY_ENTRIES) (drop DIRECTORY_FRONT (data_of image d.segment))
 
 -- the same of the attachment directory
 abbrev pub a1_entries : List ℕ → Option Directory → Result (List A1) ℕ
 a1_entries image None = Ok []
-a1_entries image (Some d) = one_after_another a1 a1_len (λ at. at) d.count (d.segment.at + 288) (drop 256 (data_of image d.segment))
+a1_entries image (Some d) = one_after_another a1 a1_len (λ at. at) d.count (d.segment.at + ATTDIR_ENTRIES) (drop ATTDIR_FRONT (data_of image d.segment))
 
 -- the subblock, and the attachment, at an entry's position
 abbrev pub subblock_at : List ℕ → Entry → Option Tile

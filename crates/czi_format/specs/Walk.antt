@@ -31,6 +31,10 @@ abbrev pub walk_end : ℕ → List Segment → ℕ
 walk_end place [] = place
 walk_end place (s ∷ rest) = walk_end (end_of (extent s)) rest
 
+-- Behind the length of an image the walk goes on only where its end and the length are one place, each rounded up to 32.
+abbrev pub goes_on : (walk_end length : ℕ) → Bool
+goes_on walk_end length = round32 walk_end == round32 length
+
 -- the image's walk
 abbrev pub IsWalk : List ℕ → List Segment → Type 0
 IsWalk image walk = WalksFrom image 0 walk

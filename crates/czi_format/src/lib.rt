@@ -1,6 +1,8 @@
 //! What a byte list shows as a document of a CZI microscope file, and the laws of reading one.
 #![tactic(auto)]
 
+mod numbers;
+
 ghost use Rattle.std.specs.Prelude.{◌≡◌, ◌⊎◌, ℕ, ◌+◌, ◌^◌, ◌<◌, ◌≤◌, ◌++◌, pos, List, length, flat_map};
 ghost use Rattle.std.specs.List.{AllByRecursion};
 ghost use Rattle.czi_format.specs.Bytes.{IsBytes, bytes_at};
@@ -12,8 +14,16 @@ ghost use Rattle.czi_format.specs.Segment.{Segment, segment_at, header_bytes};
 ghost use Rattle.czi_format.specs.Shows.{Reaches, Shows};
 ghost use Rattle.czi_format.specs.Refusals.{Refusal, IsRefused};
 ghost use Rattle.czi_format.specs.Walk.{IsWalk};
-ghost use Rattle.czi_format.specs.Layout.{Layout, HasLayout};
+ghost use Rattle.czi_format.specs.Layout.{Layout, HasLayout, IsSteady};
 ghost use Rattle.czi_format.specs.Same.{SameLive, SameWalk};
+ghost use Rattle.czi_format.specs.Empty.{empty_document, empty_image, empty_layout};
+
+pub use numbers::{
+    A1_LEN, ATTDIR_ENTRIES, ATTDIR_FRONT, ATTDIR_POSITION, CONTENTS, CONTENTS_PLACE, DATA_LIMIT,
+    DIRECTORY_ENTRIES, DIRECTORY_FRONT, DIRECTORY_POSITION, FILE_GUID, FILE_PART, HEADER_FRONT,
+    LEAST_HEADER_DATA, LONGEST_ENTRY, METADATA_POSITION, MOST_ATTACHMENTS, MOST_SUBBLOCKS,
+    TEXT_LIMIT, UPDATE_PENDING,
+};
 
 /// An image shows at most one document.
 pub fn one_document()
@@ -63,4 +73,14 @@ pub fn written_is_read()
         → one_after_another entry entry_len (λ at. at) (length es) at (flat_map entry_bytes es ++ rest) ≡ Ok es }
     ensures header { (image : List ℕ) (s : Segment) → length s.id ≡ 16 → s.allocated < 2 ^ 63 → s.used < 2 ^ 63 → s.at + 32 + s.allocated ≤ length image
         → bytes_at image s.at 32 ≡ header_bytes s → segment_at image s.at ≡ Some s }
+{}
+
+/// The 704 bytes of an empty document have its GUID as FileGuid and show it, with no update pending, and are steady: the file
+/// header, the directory, and nothing else.
+pub fn empty_is_shown()
+    ensures long { (guid : List ℕ) → length guid ≡ 16 → length (empty_image guid) ≡ 704 }
+    ensures guid { (guid : List ℕ) → length guid ≡ 16 → bytes_at (empty_image guid) 64 16 ≡ guid }
+    ensures shows { (guid : List ℕ) → length guid ≡ 16 → Shows (empty_image guid) (empty_document guid) × (update_pending (empty_image guid) ≡ pos 0) }
+    ensures layout { (guid : List ℕ) → length guid ≡ 16 → HasLayout (empty_image guid) empty_layout }
+    ensures steady { (guid : List ℕ) → length guid ≡ 16 → IsSteady (empty_image guid) }
 {}

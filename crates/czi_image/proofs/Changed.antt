@@ -7,13 +7,13 @@ use Rattle.czi_format.specs.Segment.{Segment, extent}
 use Rattle.czi_format.specs.Live.{Directory, Live}
 use Rattle.czi_format.specs.Layout.{Layout, Place}
 use Rattle.czi_machine.specs.Change.{Act, changed, kept, mapped, mapped_setting, set, Setting, same, to}
-use Rattle.czi_machine.specs.Turn.{turned, pointer}
+use Rattle.czi_machine.specs.LiveChange.{changed_live, pointer}
 use Rattle.czi_machine.proofs.Changing.{map-changed}
 use Rattle.czi_num.specs.Span.{span_of}
 use Rattle.czi_num.specs.declared.span.Span.{Span as CodeSpan}
 use Rattle.czi_seg.specs.declared.file_header.FileHeader.{FileHeader as CodeFileHeader}
 use Rattle.czi_image.specs.Applied.{IsChanged, IsSame, directory_after, pointer_after, place_after, layout_after}
-use Rattle.czi_image.specs.Change.{acts_of, directory_set, setting_of, turn_of, directory_in, attdir_in, entries_after, a1s_after}
+use Rattle.czi_image.specs.Change.{acts_of, directory_set, setting_of, live_change_of, directory_in, attdir_in, entries_after, a1s_after}
 use Rattle.czi_image.specs.Holds.{Holds, IsHeader, LiesAs, lies_at, extent_of, header_place, directory_place, tile_place, att_item_place, meta_item_place}
 use Rattle.czi_image.specs.Spans.{directory_span}
 use Rattle.czi_image.specs.View.{tile_of, att_item_of, meta_item_of}
@@ -67,7 +67,7 @@ directory_own es i = ap (λ (n : ℕ). let s : Span = record { at = i.span.at; l
 attdir_own : (es : List A1) (i : DirItem) → extent (attdir_in (directory_span i) es).segment ≡ directory_span i
 attdir_own es i = ap (λ (n : ℕ). let s : Span = record { at = i.span.at; len = n } in s) (long_enough i.span.len i.long)
 
-pub holds_changed : (c : CodeChange) (free : List CodeSpan) (n : ℕ) (old new : Index) (live : Live) → IsChanged c free n old new → Holds live old → Holds (turned (turn_of c old) live) new
+pub holds_changed : (c : CodeChange) (free : List CodeSpan) (n : ℕ) (old new : Index) (live : Live) → IsChanged c free n old new → Holds live old → Holds (changed_live (live_change_of c old) live) new
 holds_changed c free n old new live is holds =
     let es : List Entry = entries_after c old in
     let as' : List A1 = a1s_after c old in

@@ -31,7 +31,7 @@ use Rattle.czi_walk.proofs.Stand.{Here, live_stand}
 use Rattle.czi_image.specs.declared.reading.Live.{Live as CodeLive}
 use Rattle.czi_image.specs.declared.index.Index.{Index}
 use Rattle.czi_image.specs.declared.fault.ImageFault.{ImageFault}
-use Rattle.czi_image.specs.Faults.{Tells, Refuses}
+use Rattle.czi_image.specs.Faults.{Tells, TellsBrokenRule}
 use Rattle.czi_image.proofs.Told.{tells_first}
 use Rattle.czi_image.specs.Holds.{Holds, LiesAs, IsSettled, Indexes}
 use Rattle.czi_image.specs.Inside.{LiveWithin}
@@ -50,7 +50,7 @@ unfolding reading
 read_overlap image live r found some = rw (found, some)
 
 -- what the other rules refuse
-pub refuses_first : (image : List ℕ) (fault : ImageFault) → Tells (reads_but_overlap image) fault → Refuses image fault
+pub refuses_first : (image : List ℕ) (fault : ImageFault) → Tells (reads_but_overlap image) fault → TellsBrokenRule image fault
 unfolding reading
 refuses_first image fault told = tells_first (reads_but_overlap image) _ fault told
 

@@ -1,15 +1,16 @@
 -- An index after a change, and what it says of an image.
-use Rattle.std.specs.Prelude.{◌≡◌, ℕ, ◌+◌, ◌≤◌, ◌^◌, pos, List, map, length, Bool, ◌&&◌, ◌==◌, nat_lt, ℤ, Option, Some, None, if◌then◌else◌, vec_len, vec_capacity}
+use Rattle.std.specs.Prelude.{◌≡◌, ℕ, ◌+◌, ◌≤◌, ◌^◌, pos, List, map, length, Bool, ◌&&◌, nat_lt, ℤ, Option, Some, None, if◌then◌else◌, vec_len, vec_capacity}
 use Rattle.std.specs.List.{AllByRecursion}
 use Rattle.czi_format.specs.Layout.{Layout, Place}
 use Rattle.czi_format.specs.Live.{Live}
-use Rattle.czi_format.specs.Span.{Span, AreDisjoint, end_of, round32}
+use Rattle.czi_format.specs.Span.{Span, AreDisjoint, end_of}
+use Rattle.czi_format.specs.Walk.{goes_on}
 use Rattle.czi_machine.specs.Change.{changed, mapped, mapped_setting, set}
 use Rattle.czi_machine.specs.Places.{walk_goes_on}
-use Rattle.czi_machine.specs.Turn.{turned, pointer}
+use Rattle.czi_machine.specs.LiveChange.{changed_live, pointer}
 use Rattle.czi_num.specs.Span.{span_of}
 use Rattle.czi_num.specs.declared.span.Span.{Span as CodeSpan}
-use Rattle.czi_image.specs.Change.{AreWithin, acts_of, setting_of, turn_of}
+use Rattle.czi_image.specs.Change.{AreWithin, acts_of, setting_of, live_change_of}
 use Rattle.czi_image.specs.Holds.{Holds, LiesAs, directory_place, tile_place, att_item_place, meta_item_place}
 use Rattle.czi_image.specs.Spans.{AreFree, live_spans}
 use Rattle.czi_image.specs.View.{meta_item_of}
@@ -39,9 +40,9 @@ pointer_after (New d) was old = pos d.span.at
 abbrev pub live_after : Change → Index → List Span
 live_after c x = live_spans x.header (directory_after c.directory x.directory) (changed (acts_of c.tiles.items) x.tiles.items) (directory_after c.attdir x.attdir) (changed (acts_of c.attachments.items) x.attachments.items) (set (setting_of c.metadata) x.metadata)
 
--- behind the length the walk goes on only where its end and the length are one place, each rounded up to 32
+-- the walk goes on behind the length
 abbrev pub walks_on : Index → Bool
-walks_on x = round32 x.walk_end == round32 x.length
+walks_on x = goes_on x.walk_end x.length
 
 abbrev pub walk_end_after : Index → ℕ → ℕ
 walk_end_after x n = if walks_on x && nat_lt x.length n then n else x.walk_end
@@ -118,7 +119,7 @@ layout_after c deleted n l = record {
 
 -- a changed index holds what the change makes of what is live
 abbrev pub HoldsChanged : Type 0
-HoldsChanged = (c : Change) (free : List CodeSpan) (n : ℕ) (old new : Index) (live : Live) → IsChanged c free n old new → Holds live old → Holds (turned (turn_of c old) live) new
+HoldsChanged = (c : Change) (free : List CodeSpan) (n : ℕ) (old new : Index) (live : Live) → IsChanged c free n old new → Holds live old → Holds (changed_live (live_change_of c old) live) new
 
 -- and it has the layout afterwards
 abbrev pub LiesChanged : Type 0

@@ -6,7 +6,7 @@ use Rattle.czi_format.specs.Segment.{directory_id, attdir_id}
 use Rattle.czi_format.specs.Span.{Span}
 use Rattle.czi_machine.specs.Change.{Change, changed, and_then, into, mapped, mapped_setting, out, put, same, to, Setting}
 use Rattle.czi_machine.specs.Patch.{total}
-use Rattle.czi_machine.specs.Turn.{Turn}
+use Rattle.czi_machine.specs.LiveChange.{LiveChange}
 use Rattle.czi_image.specs.Spans.{directory_span}
 use Rattle.czi_image.specs.View.{tile_of, att_item_of, meta_item_of}
 use Rattle.czi_image.specs.declared.change.Act.{Act as CodeAct}
@@ -18,6 +18,7 @@ use Rattle.czi_image.specs.declared.change.Setting.{Setting as CodeSetting}
 use Rattle.czi_image.specs.declared.change.Setting.TheVariants.{Same, To}
 use Rattle.czi_image.specs.declared.index.Index.{Index}
 use Rattle.czi_image.specs.declared.types.DirItem.{DirItem}
+use Rattle.czi_format.specs.declared.numbers.TheConstants.{DIRECTORY_FRONT, ATTDIR_FRONT}
 
 -- one act, and acts one after another
 abbrev pub act_of : {X : Type 0} → CodeAct X → Change X
@@ -46,10 +47,10 @@ AreWithin (Into i x ∷ acts) n = (i ≤ n) × AreWithin acts (suc n)
 
 -- a directory in a span, which lists these entries
 abbrev pub directory_in : Span → List Entry → Directory
-directory_in s es = record { segment = record { at = s.at; id = directory_id; allocated = s.len - 32; used = 128 + total entry_len es }; count = length es }
+directory_in s es = record { segment = record { at = s.at; id = directory_id; allocated = s.len - 32; used = DIRECTORY_FRONT + total entry_len es }; count = length es }
 
 abbrev pub attdir_in : Span → List A1 → Directory
-attdir_in s es = record { segment = record { at = s.at; id = attdir_id; allocated = s.len - 32; used = 256 + total a1_len es }; count = length es }
+attdir_in s es = record { segment = record { at = s.at; id = attdir_id; allocated = s.len - 32; used = ATTDIR_FRONT + total a1_len es }; count = length es }
 
 -- a directory that is patched is another one in the same span
 abbrev pub directory_set : (Span → Directory) → DirectoryChange → Option DirItem → Setting Directory
@@ -72,8 +73,8 @@ abbrev pub a1s_after : CodeChange → Index → List A1
 a1s_after c x = map (λ (a : AttItem). a.entry) (changed (attachments_change c) (map att_item_of x.attachments.items))
 
 -- what it makes of what is live
-abbrev pub turn_of : CodeChange → Index → Turn
-turn_of c x = record {
+abbrev pub live_change_of : CodeChange → Index → LiveChange
+live_change_of c x = record {
   directory = directory_set (λ s. directory_in s (entries_after c x)) c.directory x.directory;
   tiles = tiles_change c;
   attdir = directory_set (λ s. attdir_in s (a1s_after c x)) c.attdir x.attdir;

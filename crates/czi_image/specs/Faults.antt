@@ -21,8 +21,8 @@ Tells answer Memory = Unit {0}
 Tells answer Device = Unit {0}
 
 -- the fault tells the first rule of reading that fails
-abbrev pub Refuses : List ℕ → ImageFault → Type 0
-Refuses image fault = Tells (reading image) fault
+abbrev pub TellsBrokenRule : List ℕ → ImageFault → Type 0
+TellsBrokenRule image fault = Tells (reading image) fault
 
 -- only a call failed, or memory was wanting: the image is refused by no rule
 abbrev pub IsOnlyCalls : ImageFault → Type 0

@@ -15,6 +15,7 @@ use Rattle.czi_image.specs.declared.types.DirItem.{DirItem}
 use Rattle.czi_image.specs.declared.index.Index.{Index}
 use Rattle.czi_image.specs.Spans.{header_span, directory_span, tile_span, att_item_span, meta_item_span}
 use Rattle.czi_image.specs.View.{tile_of, att_item_of, meta_item_of}
+use Rattle.czi_format.specs.declared.numbers.TheConstants.{UPDATE_PENDING}
 
 -- the file header of a first part, with no update pending
 pub record IsHeader (header : FileHeader) (h : CodeFileHeader) : Type 0 where
@@ -73,7 +74,7 @@ pub record LiesAs (l : Layout) (x : Index) : Type 0 where
 
 -- the four bytes of UpdatePending are 0
 abbrev pub IsSettled : List ℕ → Type 0
-IsSettled image = (k : ℕ) → 100 ≤ k → k < 104 → slice_index image k ≡ 0
+IsSettled image = (k : ℕ) → UPDATE_PENDING ≤ k → k < UPDATE_PENDING + 4 → slice_index image k ≡ 0
 
 -- The image shows a document and no update is pending; the index holds what its pointers reach, and its layout.
 pub record Indexes (image : List ℕ) (x : Index) : Type 0 where

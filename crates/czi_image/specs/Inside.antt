@@ -8,15 +8,16 @@ use Rattle.czi_image.specs.declared.types.MetaItem.{MetaItem}
 use Rattle.czi_image.specs.declared.tiles.Tiles.{Tiles}
 use Rattle.czi_image.specs.declared.attachments.Attachments.{Attachments}
 use Rattle.czi_image.specs.declared.reading.Live.{Live}
+use Rattle.czi_format.specs.declared.numbers.TheConstants.{DIRECTORY_FRONT, ATTDIR_FRONT, A1_LEN}
 
 -- the directory has 128 bytes of data at least and ends within this length
 pub record IsWithin (size : ℕ) (d : Directory) : Type 0 where
-  pub roomy : 128 ≤ d.segment.head.allocated
+  pub roomy : DIRECTORY_FRONT ≤ d.segment.head.allocated
   pub inside : d.segment.span.at + 32 + d.segment.head.allocated ≤ size
 
 -- the attachment directory's entries end within it, and it ends within this length
 pub record HoldsEntries (size : ℕ) (d : Directory) : Type 0 where
-  pub roomy : 256 + 128 * d.count ≤ d.segment.head.allocated
+  pub roomy : ATTDIR_FRONT + A1_LEN * d.count ≤ d.segment.head.allocated
   pub inside : d.segment.span.at + 32 + d.segment.head.allocated ≤ size
 
 -- it ends within this length

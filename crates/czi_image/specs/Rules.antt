@@ -12,13 +12,14 @@ use Rattle.czi_seg.specs.declared.file_header.HeaderFault.TheVariants.{Short, Ba
 use Rattle.czi_image.specs.declared.fault.ImageFault.{ImageFault}
 use Rattle.czi_image.specs.declared.fault.ImageFault.TheVariants as faults
 use Rattle.czi_image.specs.Windows.{front_within}
+use Rattle.czi_format.specs.declared.numbers.TheConstants.{UPDATE_PENDING}
 
 -- the first rules, over the first 112 bytes of an image of n bytes
 unfoldable pub first_rules_in : List ℕ → ℕ → Result FileHeader Refusal
 first_rules_in front n = do
   header ← ok_or (front_within front n) not_czi
   unless (is_zero header.part) (multi_part header.part)
-  unless (is_zero (i32_at front 100)) (pending (i32_at front 100))
+  unless (is_zero (i32_at front UPDATE_PENDING)) (pending (i32_at front UPDATE_PENDING))
   Ok header
 
 -- what a fault of the file header says of the image

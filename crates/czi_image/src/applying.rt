@@ -2,7 +2,7 @@
 
 ghost use Rattle.std.specs.Prelude.{◌≡◌, ◌+◌, ◌≤◌, ◌∷◌, [], length, map, vec_len, vec_capacity, OnOk};
 ghost use Rattle.czi_machine.specs.Change.{changed, set};
-ghost use Rattle.czi_machine.specs.Turn.{pointer};
+ghost use Rattle.czi_machine.specs.LiveChange.{pointer};
 ghost use Rattle.czi_num.specs.Span.{span_of};
 ghost use Rattle.czi_image.specs.Applied.{CanChange, HasRoom, IsChanged, IsSame, directory_after, pointer_after, walk_end_after};
 ghost use Rattle.czi_image.specs.Change.{AreWithin, act_of, acts_of, setting_of};

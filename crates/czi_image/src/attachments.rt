@@ -26,6 +26,7 @@ use crate::fault::ImageFault;
 use crate::segment::{read_count, read_front, sound_in};
 use crate::types::AttItem;
 use czi_doc::AttInfo;
+use czi_format::{ATTDIR_ENTRIES, CONTENTS, CONTENTS_PLACE};
 use czi_num::{Span, read_bytes};
 use czi_rig::{Failed, Rig};
 use czi_seg::SegId;
@@ -52,7 +53,7 @@ fn attachment_in(front: &[u8; 36], info: AttInfo, at: u64, size: u64) -> Option<
     let head = sound_in(front, SegId::Attachment, at, size)?;
     let count = read_count(&read_bytes(front, 32))?;
     let bytes = u64::from(count);
-    if 256 + bytes > head.allocated {
+    if CONTENTS as u64 + bytes > head.allocated {
         return None;
     }
     let span = Span {
@@ -82,7 +83,7 @@ fn read_attachment<R: Rig>(
     ensures cause { Faults (failed_at result (device_of Image)) (R.state rig.old) (R.state rig.new) }
 {
     let (info, position) = entry;
-    match read_front(rig, position, 288, size)? {
+    match read_front(rig, position, CONTENTS_PLACE, size)? {
         None => Ok(None),
         Some(front) => Ok(attachment_in(&front.bytes, info, front.at, size)),
     }
@@ -133,7 +134,7 @@ fn read_attached<R: Rig>(
     ensures cause { Faults (fault_at image_device result) (R.state rig.old) (R.state rig.new) }
 {
     let bytes = read_a1_entries(alloc, rig, directory)?;
-    let place = directory.segment.span.at + 288;
+    let place = directory.segment.span.at + ATTDIR_ENTRIES;
     let entries = take_a1_entries(alloc, directory.count, &bytes, place)?;
     drop(bytes);
     read_each(alloc, rig, entries, size)

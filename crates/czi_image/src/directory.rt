@@ -15,6 +15,7 @@ ghost use Rattle.czi_image.specs.Windows.{in_window};
 
 use crate::found::Segment;
 use crate::segment::{read_count, read_front, sound_in};
+use czi_format::{A1_LEN, ATTDIR_ENTRIES, ATTDIR_FRONT, DIRECTORY_ENTRIES, DIRECTORY_FRONT};
 use czi_num::{Span, read_bytes};
 use czi_rig::{Failed, Rig};
 use czi_seg::SegId;
@@ -36,7 +37,7 @@ fn directory_in(front: &[u8; 36], at: u64, size: u64) -> Option<Directory>
 {
     let head = sound_in(front, SegId::Directory, at, size)?;
     let count = read_count(&read_bytes(front, 32))?;
-    if head.allocated < 128 {
+    if head.allocated < DIRECTORY_FRONT as u64 {
         return None;
     }
     let span = Span {
@@ -59,7 +60,7 @@ fn attachment_directory_in(front: &[u8; 36], at: u64, size: u64) -> Option<Direc
 {
     let head = sound_in(front, SegId::AttDir, at, size)?;
     let count = read_count(&read_bytes(front, 32))?;
-    if head.allocated < 256 + 128 * u64::from(count) {
+    if head.allocated < ATTDIR_FRONT as u64 + A1_LEN as u64 * u64::from(count) {
         return None;
     }
     let span = Span {
@@ -81,7 +82,7 @@ fn directory_at<R: Rig>(rig: &mut R, position: i64, size: u64) -> Result<Option<
     ensures untouched { Untouched R.Rig rig.old rig.new }
     ensures cause { Faults (failed_at result (device_of Image)) (R.state rig.old) (R.state rig.new) }
 {
-    match read_front(rig, position, 160, size)? {
+    match read_front(rig, position, DIRECTORY_ENTRIES, size)? {
         None => Ok(None),
         Some(front) => Ok(directory_in(&front.bytes, front.at, size)),
     }
@@ -100,7 +101,7 @@ fn attachment_directory_at<R: Rig>(
     ensures untouched { Untouched R.Rig rig.old rig.new }
     ensures cause { Faults (failed_at result (device_of Image)) (R.state rig.old) (R.state rig.new) }
 {
-    match read_front(rig, position, 288, size)? {
+    match read_front(rig, position, ATTDIR_ENTRIES, size)? {
         None => Ok(None),
         Some(front) => Ok(attachment_directory_in(&front.bytes, front.at, size)),
     }

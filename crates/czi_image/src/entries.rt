@@ -20,12 +20,10 @@ use crate::fault::ImageFault;
 use czi_att::read_a1;
 use czi_doc::AttInfo;
 use czi_dv::{Entry, EntryFault, read_entry};
+use czi_format::{A1_LEN, ATTDIR_ENTRIES, DIRECTORY_ENTRIES, DIRECTORY_FRONT, LONGEST_ENTRY};
 use czi_num::read_bytes;
 use czi_rig::{File, Rig};
 use std::alloc::{AllocError, Global};
-
-/// Bytes of the longest `DV` entry: 32, and 40 dimension records of 20 each.
-const LONGEST_ENTRY: u64 = 832;
 
 /// Reads so many bytes at a place of the image.
 fn read_piece<R: Rig>(alloc: Global, rig: &mut R, at: u64, len: u64) -> Result<Vec<u8>, ImageFault>
@@ -54,15 +52,20 @@ pub(crate) fn read_entries<R: Rig>(
     requires inside { ForSome (seen_of (R.state rig.old) File.Image) (λ image. IsWithin (length image) directory.now) }
     requires within { IsWithin (2 ^ 62) directory.now }
     ensures bytes { IfOk result (λ bytes. ForSome (seen_of (R.state rig.old) File.Image) (λ image.
-        bytes.items ≡ bytes_at image (directory.now.segment.span.at + 160) (min (directory.now.segment.head.allocated - 128) (832 * directory.now.count)))) }
-    ensures len { IfOk result (λ bytes. vec_len bytes ≤ directory.now.segment.head.allocated - 128) }
+        bytes.items ≡ bytes_at image (directory.now.segment.span.at + DIRECTORY_ENTRIES) (min (directory.now.segment.head.allocated - DIRECTORY_FRONT) (LONGEST_ENTRY * directory.now.count)))) }
+    ensures len { IfOk result (λ bytes. vec_len bytes ≤ directory.now.segment.head.allocated - DIRECTORY_FRONT) }
     ensures only { IfErr result IsOnlyCalls }
     ensures untouched { Untouched R.Rig rig.old rig.new }
     ensures cause { Faults (fault_at image_device result) (R.state rig.old) (R.state rig.new) }
 {
-    let reach = LONGEST_ENTRY * u64::from(directory.count);
-    let len = (directory.segment.head.allocated - 128).min(reach);
-    read_piece(alloc, rig, directory.segment.span.at + 160, len)
+    let reach = LONGEST_ENTRY as u64 * u64::from(directory.count);
+    let len = (directory.segment.head.allocated - DIRECTORY_FRONT as u64).min(reach);
+    read_piece(
+        alloc,
+        rig,
+        directory.segment.span.at + DIRECTORY_ENTRIES,
+        len,
+    )
 }
 
 /// The entry at the front of the bytes and its length, or none where none stands there.
@@ -115,8 +118,8 @@ pub(crate) fn read_a1_entries<R: Rig>(
     requires inside { ForSome (seen_of (R.state rig.old) File.Image) (λ image. HoldsEntries (length image) directory.now) }
     requires within { HoldsEntries (2 ^ 62) directory.now }
     ensures bytes { IfOk result (λ bytes. ForSome (seen_of (R.state rig.old) File.Image) (λ image.
-        bytes.items ≡ bytes_at image (directory.now.segment.span.at + 288) (128 * directory.now.count))) }
-    ensures len { IfOk result (λ bytes. vec_len bytes ≡ 128 * directory.now.count) }
+        bytes.items ≡ bytes_at image (directory.now.segment.span.at + ATTDIR_ENTRIES) (A1_LEN * directory.now.count))) }
+    ensures len { IfOk result (λ bytes. vec_len bytes ≡ A1_LEN * directory.now.count) }
     ensures only { IfErr result IsOnlyCalls }
     ensures untouched { Untouched R.Rig rig.old rig.new }
     ensures cause { Faults (fault_at image_device result) (R.state rig.old) (R.state rig.new) }
@@ -124,8 +127,8 @@ pub(crate) fn read_a1_entries<R: Rig>(
     read_piece(
         alloc,
         rig,
-        directory.segment.span.at + 288,
-        128 * u64::from(directory.count),
+        directory.segment.span.at + ATTDIR_ENTRIES,
+        A1_LEN as u64 * u64::from(directory.count),
     )
 }
 
@@ -133,7 +136,7 @@ pub(crate) fn read_a1_entries<R: Rig>(
 fn a1_at_front(bytes: &[u8]) -> Option<(AttInfo, i64)>
     ensures { option_map a1_of result ≡ a1 bytes.now }
 {
-    if bytes.len() < 128 {
+    if bytes.len() < A1_LEN {
         return None;
     }
     read_a1(&read_bytes(bytes, 0))
@@ -147,7 +150,7 @@ pub(crate) fn take_a1_entries(
     place: u64,
 ) -> Result<Vec<(AttInfo, i64)>, ImageFault>
     requires small { place + length bytes.now ≤ 2 ^ 62 }
-    requires whole { length bytes.now ≡ 128 * count }
+    requires whole { length bytes.now ≡ A1_LEN * count }
     ensures found { IfOk result (λ es. a1_rules count place bytes.now ≡ Ok (map a1_of es.items)) }
     ensures len { IfOk result (λ es. vec_len es ≡ count) }
     ensures refused { IfErr result (Tells (a1_rules count place bytes.now)) }
@@ -161,9 +164,9 @@ pub(crate) fn take_a1_entries(
             return Err(ImageFault::BadAttachment(at as i64))
         };
         entries.push(entry)?;
-        let (_, behind) = rest.split_at(128);
+        let (_, behind) = rest.split_at(A1_LEN);
         rest = behind;
-        at += 128;
+        at += A1_LEN as u64;
     }
     Ok(entries)
 }

@@ -1,6 +1,7 @@
 //! Segments that were found in an image.
 
 ghost use Rattle.std.specs.Prelude.{◌≡◌, ◌+◌, ◌≤◌, pos};
+ghost use Rattle.czi_format.specs.declared.numbers.TheConstants.{LEAST_HEADER_DATA};
 
 use czi_num::Span;
 use czi_seg::{FileHeader, SegHeader};
@@ -14,7 +15,7 @@ pub(crate) struct Header {
     ghost place: { span.at ≡ 0 },
     ghost extent: { span.len ≡ 32 + head.allocated },
     ghost allocated: { file.allocated ≡ head.allocated },
-    ghost headed: { 80 ≤ file.allocated },
+    ghost headed: { LEAST_HEADER_DATA ≤ file.allocated },
     ghost idle: { file.pending ≡ pos 0 },
 }
 

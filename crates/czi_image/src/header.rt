@@ -14,6 +14,7 @@ ghost use Rattle.czi_image.specs.View.{file_header_of};
 
 use crate::fault::ImageFault;
 use crate::found::Header;
+use czi_format::HEADER_FRONT;
 use czi_num::{Span, read_bytes};
 use czi_rig::{File, Rig};
 use czi_seg::{HeaderFault, read_file_header, read_header};
@@ -31,8 +32,8 @@ fn fault_of(fault: HeaderFault) -> ImageFault
 }
 
 /// The header in the first 112 bytes of an image of this length.
-fn header_in(front: &[u8; 112], size: u64) -> Result<Header, ImageFault>
-    requires { (112 ≤ size) × (size ≤ 2 ^ 62) }
+fn header_in(front: &[u8; HEADER_FRONT], size: u64) -> Result<Header, ImageFault>
+    requires { (HEADER_FRONT ≤ size) × (size ≤ 2 ^ 62) }
     ensures found { IfOk result (λ h. first_rules_in front.now size ≡ Ok (file_header_of h)) }
     ensures inside { IfOk result (λ h. h.span.len ≤ size) }
     ensures settled { OnOk result (IsSettled front.now) }
@@ -71,10 +72,10 @@ pub(crate) fn read_header_at_front<R: Rig>(rig: &mut R, size: u64) -> Result<Hea
     ensures untouched { Untouched R.Rig rig.old rig.new }
     ensures cause { Faults (fault_at image_device result) (R.state rig.old) (R.state rig.new) }
 {
-    if size < 112 {
+    if size < HEADER_FRONT as u64 {
         return Err(ImageFault::NotCzi);
     }
-    let mut front = [0u8; 112];
+    let mut front = [0u8; HEADER_FRONT];
     match rig.read_at(File::Image, 0, &mut front) {
         Ok(()) => header_in(&front, size),
         Err(_) => Err(ImageFault::Device),

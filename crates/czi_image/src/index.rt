@@ -10,9 +10,11 @@ ghost use Rattle.czi_image.specs.Spans.{AreFree, live_spans};
 ghost use Rattle.czi_image.specs.Summary.{Sums, number_of};
 ghost use Rattle.czi_image.specs.View.{tile_of};
 ghost use Rattle.czi_image.specs.declared.types.Tile.{Tile};
+ghost use Rattle.czi_format.specs.declared.numbers.TheConstants.{LEAST_HEADER_DATA};
 
 use crate::summary::Summary;
 use crate::types::{AttItem, DirItem, MetaItem, Tile};
+use czi_format::LONGEST_ENTRY;
 use czi_num::Span;
 use czi_seg::FileHeader;
 
@@ -41,7 +43,7 @@ pub struct Index {
     pub walk_end: u64,
     /// The summary of the subblocks.
     pub(crate) summary: Summary,
-    pub ghost headed: { 80 ≤ header.allocated },
+    pub ghost headed: { LEAST_HEADER_DATA ≤ header.allocated },
     pub ghost small: { length ≤ 2 ^ 62 },
     pub ghost walked_within: { walk_end ≤ length },
     pub ghost inside: { AllByRecursion (λ s. end_of s ≤ length) (live_spans header directory tiles.items attdir attachments.items metadata) } by { inside_prop length (live_spans header directory tiles.items attdir attachments.items metadata) },
@@ -63,7 +65,7 @@ impl Index {
     /// How many bytes the directory entries of all subblocks have.
     pub fn entries_len(&self) -> usize
         ensures len { result ≡ sum (map entry_len (map (λ (t : Tile). (tile_of t).entry) self.now.tiles.items)) }
-        ensures bound { result ≤ 832 * length self.now.tiles.items }
+        ensures bound { result ≤ LONGEST_ENTRY * length self.now.tiles.items }
     {
         self.summary.entries_len
     }

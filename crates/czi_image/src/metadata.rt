@@ -19,6 +19,7 @@ use crate::fault::ImageFault;
 use crate::segment::{read_front, sound_in};
 use crate::types::MetaItem;
 use czi_body::read_meta_head;
+use czi_format::{CONTENTS, CONTENTS_PLACE};
 use czi_num::{Span, read_bytes};
 use czi_rig::{Failed, Rig};
 use czi_seg::SegId;
@@ -35,7 +36,7 @@ fn metadata_in(front: &[u8; 40], at: u64, size: u64) -> Option<MetaItem>
     let body = read_meta_head(&read_bytes(front, 32))?;
     let xml = u64::from(body.xml);
     let tail = u64::from(body.tail);
-    if 256 + xml + tail > head.allocated {
+    if CONTENTS as u64 + xml + tail > head.allocated {
         return None;
     }
     let span = Span {
@@ -60,7 +61,7 @@ fn metadata_at<R: Rig>(rig: &mut R, position: i64, size: u64) -> Result<Option<M
     ensures untouched { Untouched R.Rig rig.old rig.new }
     ensures cause { Faults (failed_at result (device_of Image)) (R.state rig.old) (R.state rig.new) }
 {
-    match read_front(rig, position, 288, size)? {
+    match read_front(rig, position, CONTENTS_PLACE, size)? {
         None => Ok(None),
         Some(front) => Ok(metadata_in(&front.bytes, front.at, size)),
     }

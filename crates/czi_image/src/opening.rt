@@ -13,7 +13,7 @@ ghost use Rattle.czi_rig.specs.Quiet.{Untouched};
 ghost use Rattle.czi_walk.specs.Survey.{Shows};
 ghost use Rattle.czi_walk.specs.View.{IsRow, segment_of};
 ghost use Rattle.czi_image.specs.Devices.{image_device};
-ghost use Rattle.czi_image.specs.Faults.{IsOnlyCalls, Refuses};
+ghost use Rattle.czi_image.specs.Faults.{IsOnlyCalls, TellsBrokenRule};
 ghost use Rattle.czi_image.specs.Holds.{Holds, Indexes, LiesAs};
 ghost use Rattle.czi_image.specs.Inside.{LiveWithin};
 ghost use Rattle.czi_image.specs.Spans.{AreFree};
@@ -88,7 +88,7 @@ fn index_of(live: Live, survey: Survey, length: u64) -> Index
 /// The image is as it was.
 pub fn read_index<R: Rig>(alloc: Global, rig: &mut R) -> Result<Index, ImageFault>
     ensures shown { IfOk result (λ x. ForSome (seen_of (R.state rig.old) File.Image) (λ image. Indexes image x)) }
-    ensures refused { IfErr result (λ fault. ForSome (seen_of (R.state rig.old) File.Image) (λ image. Refuses image fault)) }
+    ensures refused { IfErr result (λ fault. ForSome (seen_of (R.state rig.old) File.Image) (λ image. TellsBrokenRule image fault)) }
     ensures untouched { Untouched R.Rig rig.old rig.new }
     ensures cause { Faults (fault_at image_device result) (R.state rig.old) (R.state rig.new) }
 {

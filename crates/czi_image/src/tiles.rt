@@ -31,6 +31,7 @@ use crate::types::Tile;
 use czi_body::read_sub_head;
 use czi_doc::EntryInfo;
 use czi_dv::Entry;
+use czi_format::{CONTENTS_PLACE, DIRECTORY_ENTRIES};
 use czi_num::{Span, read_bytes};
 use czi_rig::{Failed, Rig};
 use czi_seg::SegId;
@@ -96,7 +97,7 @@ fn read_tile<R: Rig>(rig: &mut R, entry: Entry, size: u64) -> Result<Option<Tile
     ensures untouched { Untouched R.Rig rig.old rig.new }
     ensures cause { Faults (failed_at result (device_of Image)) (R.state rig.old) (R.state rig.new) }
 {
-    match read_front(rig, entry.position, 288, size)? {
+    match read_front(rig, entry.position, CONTENTS_PLACE, size)? {
         None => Ok(None),
         Some(front) => Ok(tile_in(&front.bytes, entry.info, front.at, size)),
     }
@@ -152,7 +153,7 @@ fn read_listed<R: Rig>(
     ensures cause { Faults (fault_at image_device result) (R.state rig.old) (R.state rig.new) }
 {
     let bytes = read_entries(alloc, rig, directory)?;
-    let place = directory.segment.span.at + 160;
+    let place = directory.segment.span.at + DIRECTORY_ENTRIES;
     let entries = take_entries(alloc, directory.count, &bytes, place)?;
     drop(bytes);
     read_each(alloc, rig, entries, size)

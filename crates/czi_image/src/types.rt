@@ -1,6 +1,7 @@
 //! What an image was read as.
 
 ghost use Rattle.std.specs.Prelude.{◌≡◌, ◌+◌, ◌^◌, ◌≤◌};
+ghost use Rattle.czi_format.specs.declared.numbers.TheConstants.{CONTENTS_PLACE};
 
 use czi_doc::{AttInfo, EntryInfo};
 use czi_num::Span;
@@ -46,7 +47,7 @@ pub struct AttItem {
     pub size: u64,
     pub ghost extent: { span.len ≡ 32 + head.allocated },
     pub ghost ends: { span.at + span.len ≤ 2 ^ 62 },
-    pub ghost contents: { 288 + size ≤ span.len },
+    pub ghost contents: { CONTENTS_PLACE + size ≤ span.len },
 }
 
 /// The live metadata. Its contents, the XML and an attachment, begin at place 256 of the segment's data.
@@ -64,7 +65,7 @@ pub struct MetaItem {
     pub tail: u64,
     pub ghost extent: { span.len ≡ 32 + head.allocated },
     pub ghost ends: { span.at + span.len ≤ 2 ^ 62 },
-    pub ghost contents: { 288 + xml + tail ≤ span.len },
+    pub ghost contents: { CONTENTS_PLACE + xml + tail ≤ span.len },
 }
 
 /// A live directory, of subblocks or of attachments.

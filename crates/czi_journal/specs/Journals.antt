@@ -5,10 +5,12 @@ use Rattle.czi_links.specs.Record.{Record}
 use Rattle.czi_links.specs.Reading.{Reading, Void, Holds, OfVersion, BadAt, read}
 use Rattle.czi_journal.specs.declared.journal.Slot.{Slot}
 use Rattle.czi_journal.specs.declared.journal.Slot.TheVariants.{A, B}
+use Rattle.czi_journal.specs.declared.journal.TheConstants.{SLOT_A, SLOT_B, JOURNAL_LEN, MARK}
+use Rattle.czi_links.specs.declared.numbers.TheConstants.{SLOT_LEN}
 
 abbrev pub slot_place : Slot → ℕ
-slot_place A = 64
-slot_place B = 262208
+slot_place A = SLOT_A
+slot_place B = SLOT_B
 
 abbrev pub other : Slot → Slot
 other A = B
@@ -27,18 +29,18 @@ behind at (BadAt place) = BadAt (at + place)
 
 -- what a slot says, whatever the selector
 unfoldable pub slot_in : Slot → List ℕ → Reading
-slot_in s journal = behind (slot_place s) (read (take 262144 (drop (slot_place s) journal)))
+slot_in s journal = behind (slot_place s) (read (take SLOT_LEN (drop (slot_place s) journal)))
 
 abbrev pub selected_in : List ℕ → Slot
 selected_in journal = if slice_index journal 1 == 1 then B else A
 
 -- what the journal says
 abbrev pub slot_of : List ℕ → Reading
-slot_of journal = if nat_le 524352 (length journal) && (slice_index journal 0 == 90) then slot_in (selected_in journal) journal else Void
+slot_of journal = if nat_le JOURNAL_LEN (length journal) && (slice_index journal 0 == MARK) then slot_in (selected_in journal) journal else Void
 
 pub record Counts (journal : List ℕ) : Type 0 where
-  pub long : 524352 ≤ length journal
-  pub mark : slice_index journal 0 ≡ 90
+  pub long : JOURNAL_LEN ≤ length journal
+  pub mark : slice_index journal 0 ≡ MARK
 
 -- the journal counts, and this slot is selected
 pub record CountsWith (s : Slot) (journal : List ℕ) : Type 0 where
@@ -69,11 +71,11 @@ IsVoidOr r journal = (slot_of journal ≡ Void) ⊎ (slot_of journal ≡ Holds r
 -- its first byte doesn't make it count
 pub record IsUnmarked (journal : List ℕ) : Type 0 where
   pub some : 1 ≤ length journal
-  pub mark : slice_index journal 0 ≡ 90 → ⊥
+  pub mark : slice_index journal 0 ≡ MARK → ⊥
 
 -- all but its first byte make it count, with this slot A
 pub record IsFilled (slot journal : List ℕ) : Type 0 where
-  pub long : 524352 ≤ length journal
-  pub mark : slice_index journal 0 ≡ 90 → ⊥
+  pub long : JOURNAL_LEN ≤ length journal
+  pub mark : slice_index journal 0 ≡ MARK → ⊥
   pub selected : slice_index journal 1 ≡ 0
-  pub same : (k : ℕ) → k < 262144 → slice_index journal (64 + k) ≡ slice_index slot k
+  pub same : (k : ℕ) → k < SLOT_LEN → slice_index journal (SLOT_A + k) ≡ slice_index slot k

@@ -9,8 +9,8 @@ ghost use Rattle.czi_links.specs.Record.{Record, record_of};
 ghost use Rattle.czi_links.specs.Reading.{Void, Holds, Spells};
 ghost use Rattle.czi_journal.specs.Journals.{slot_of, CountsWith, IsUnmarked, IsFilled, IsVoidOr};
 
-use crate::journal::{JOURNAL_LEN, Journal, MARK, Slot};
-use czi_links::SlotHead;
+use crate::journal::{JOURNAL_LEN, Journal, MARK, SLOT_A, SLOT_B, Slot};
+use czi_links::{LEAST_LENGTH, SLOT_LEN, SlotHead};
 use czi_rig::{Failed, File, Rig, write_synced};
 
 /// A journal of at least so many bytes could count, if its byte 0 were torn.
@@ -22,9 +22,9 @@ const LONG: u64 = JOURNAL_LEN;
 /// A torn byte could make a long void journal count over whatever stands in its slots. So byte 0 is written last,
 /// once all others are synced, and a long journal keeps its byte 0 until then; a short one gets 0 first.
 pub fn create<R: Rig>(rig: &mut R, head: &SlotHead, buffer: &mut [u8]) -> Result<Journal, Failed>
-    requires least { 112 ≤ head.now.length }
+    requires least { LEAST_LENGTH ≤ head.now.length }
     requires greatest { head.now.length ≤ 2 ^ 62 }
-    requires whole { length buffer.old ≡ 262144 }
+    requires whole { length buffer.old ≡ SLOT_LEN }
     requires synced { ForSome (known (R.state rig.old) File.Journal) IsAtRest }
     requires void { ForSome (seen_of (R.state rig.old) File.Journal) (λ seen. slot_of seen ≡ Void) }
 
@@ -65,7 +65,7 @@ fn clear<R: Rig>(rig: &mut R) -> Result<(), Failed>
 
 /// Writes all but byte 0, with this slot A.
 fn fill<R: Rig>(rig: &mut R, slot: &[u8]) -> Result<(), Failed>
-    requires whole { length slot.now ≡ 262144 }
+    requires whole { length slot.now ≡ SLOT_LEN }
     requires synced { ForSome (known (R.state rig.old) File.Journal) IsAtRest }
     requires unmarked { ForSome (seen_of (R.state rig.old) File.Journal) IsUnmarked }
 
@@ -78,15 +78,15 @@ fn fill<R: Rig>(rig: &mut R, slot: &[u8]) -> Result<(), Failed>
     ensures cause { Faults (failed_at result (device_of File.Journal)) (R.state rig.old) (R.state rig.new) }
 {
     rig.write_at(File::Journal, 1, &[0; 63])?;
-    rig.write_at(File::Journal, 64, slot)?;
-    rig.write_at(File::Journal, 262208, slot)?;
+    rig.write_at(File::Journal, SLOT_A, slot)?;
+    rig.write_at(File::Journal, SLOT_B, slot)?;
     rig.sync(File::Journal)?;
     Ok(())
 }
 
 /// Arms a void journal. `slot` is a whole slot that begins with the bytes of a record.
 fn arm<R: Rig>(rig: &mut R, slot: &[u8]) -> Result<Journal, Failed>
-    requires whole { length slot.now ≡ 262144 }
+    requires whole { length slot.now ≡ SLOT_LEN }
     requires synced { ForSome (known (R.state rig.old) File.Journal) IsAtRest }
     requires void { ForSome (seen_of (R.state rig.old) File.Journal) (λ seen. slot_of seen ≡ Void) }
 

@@ -1,8 +1,11 @@
-/// Bytes of a slot.
-pub const SLOT_LEN: usize = 262144;
+/// The place of slot A, behind the head.
+pub(crate) const SLOT_A: u64 = 64;
+
+/// The place of slot B, behind slot A.
+pub(crate) const SLOT_B: u64 = 262_208;
 
 /// Bytes of the head and both slots.
-pub(crate) const JOURNAL_LEN: u64 = 524352;
+pub(crate) const JOURNAL_LEN: u64 = 524_352;
 
 /// Byte 0 of a journal that counts.
 pub(crate) const MARK: u8 = 0x5a;
@@ -33,8 +36,8 @@ impl Slot {
         ensures { result ≡ slot_place self }
     {
         match self {
-            Slot::A => 64,
-            Slot::B => 262208,
+            Slot::A => SLOT_A,
+            Slot::B => SLOT_B,
         }
     }
 

@@ -23,6 +23,6 @@ mod probing;
 mod steps;
 
 pub use arming::create;
-pub use journal::{Journal, SLOT_LEN, Slot};
-pub use probing::{JournalFault, probe};
+pub use journal::{Journal, Slot};
+pub use probing::{JournalFault, probe, selected_slot};
 pub use steps::{flip, seal, stage};

@@ -10,8 +10,8 @@ ghost use Rattle.czi_journal.specs.Devices.{journal_device};
 ghost use Rattle.czi_journal.specs.Journals.{behind, slot_of};
 ghost use Rattle.czi_journal.specs.Probing.{IsEmptied, IsProbed, IsSelection, IsSlotAnswer};
 
-use crate::journal::{JOURNAL_LEN, Journal, MARK, SLOT_LEN, Slot};
-use czi_links::{LinkFault, Links, SlotHead, decode};
+use crate::journal::{JOURNAL_LEN, Journal, MARK, SLOT_B, Slot};
+use czi_links::{LinkFault, Links, SLOT_LEN, SlotHead, decode};
 use czi_rig::{Failed, File, Rig};
 use std::alloc::{AllocError, Global};
 
@@ -85,8 +85,8 @@ pub fn probe<R: Rig>(
     Ok(Some((journal, head)))
 }
 
-/// The selected slot, where the journal counts.
-fn selected_slot<R: Rig>(rig: &mut R) -> Result<Option<Slot>, Failed>
+/// The selected slot, where the journal counts. Its record isn't looked at.
+pub fn selected_slot<R: Rig>(rig: &mut R) -> Result<Option<Slot>, Failed>
     ensures answer { IfOk result (λ slot. ForSome (seen_of (R.state rig.old) File.Journal) (λ seen. IsSelection seen slot)) }
     ensures same { SameAll (R.state rig.old) (R.state rig.new) }
     ensures moments { ForSome (devices (R.state rig.old)) (λ all. Throughout R.Rig rig.old rig.new (LeavesNow all)) }
@@ -103,7 +103,7 @@ fn selected_slot<R: Rig>(rig: &mut R) -> Result<Option<Slot>, Failed>
 
 /// The slot that the first two bytes of a journal select, where they let it count.
 fn selection(head: [u8; 2]) -> Option<Slot>
-    ensures { (seen : List ℕ) → 524352 ≤ length seen → head ≡ take 2 (drop 0 seen) → IsSelection seen result }
+    ensures { (seen : List ℕ) → JOURNAL_LEN ≤ length seen → head ≡ take 2 (drop 0 seen) → IsSelection seen result }
 {
     if head[0] != MARK {
         return None;
@@ -117,8 +117,8 @@ fn selection(head: [u8; 2]) -> Option<Slot>
 
 /// The record of the slot that begins at a place of the journal. The place that is refused is one of the journal.
 fn decode_at(place: u64, slot: &[u8], links: &mut Links) -> Result<SlotHead, JournalFault>
-    requires place { place ≤ 262208 }
-    requires whole { length slot.now ≡ 262144 }
+    requires place { place ≤ SLOT_B }
+    requires whole { length slot.now ≡ SLOT_LEN }
     ensures answer { IsSlotAnswer (behind place (read slot.now)) links.new.links result }
     ensures rules { IfOk result (λ head. IsRead (record_of head links.new.links)) }
     ensures emptied { OnErr result (links.new.links ≡ []) }

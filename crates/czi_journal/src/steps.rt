@@ -10,13 +10,14 @@ ghost use Rattle.czi_links.specs.Reading.{Void, Holds, Spells};
 ghost use Rattle.czi_journal.specs.Journals.{other, slot_in, slot_of, Counts, CountsWith, SaysAsBefore, SaysAsBeforeOr, SaysAsBeforeOrVoid};
 
 use crate::journal::Journal;
+use czi_links::SLOT_LEN;
 use czi_rig::{Failed, File, Rig, cut_synced, write_synced};
 
 /// Writes a record to the front of the slot that isn't selected, and syncs.
 pub fn stage<R: Rig>(rig: &mut R, journal: &Journal, bytes: &[u8]) -> Result<(), Failed>
     requires armed { IsTrue journal.now.armed }
     requires counts { ForSome (known (R.state rig.old) File.Journal) (Everywhere (CountsWith journal.now.selected)) }
-    requires room { length bytes.now ≤ 262144 }
+    requires room { length bytes.now ≤ SLOT_LEN }
 
     // Each journal that a crash leaves says what it said.
     ensures moments { ForSome (devices (R.state rig.old)) (λ all. Throughout R.Rig rig.old rig.new (λ image j said.

@@ -9,7 +9,7 @@ use Rattle.std.proofs.lemmas.Nat.{from_le_bytes-to_le_bytes_4, from_le_bytes-to_
 use Rattle.std.specs.Int.{Width, byte_len}
 use Rattle.std.proofs.lemmas.List.Elements.{All-head, All-tail}
 use Rattle.czi_format.specs.Bytes.{bytes_at, u32_at, u64_at}
-use Rattle.czi_links.specs.Record.{Bytes, Record, AreRising, EndWithin, IsSound, encoded_len, end_of, spell_link, spell_head, spelling}
+use Rattle.czi_links.specs.Record.{Bytes, Record, AreRising, EndWithin, FitsSlot, encoded_len, end_of, spell_link, spell_head, spelling}
 use Rattle.czi_links.specs.Reading.{Holds, KeepsRules, is_good, after, links_at, holds, read, read_fields, Spells}
 
 abbrev number : Width → List ℕ → ℕ
@@ -145,7 +145,7 @@ pub count_small : (ls : List Bytes) → length ls ≤ length (flat_map spell_lin
 count_small [] = omega arith
 count_small (l ∷ ls) = omega (arith, length-append (spell_link l) (flat_map spell_link ls), length-spell_link l, count_small ls)
 
-pub read_again : (r : Record) (rest : List ℕ) → IsSound r → read (spelling r ++ rest) ≡ Holds r
+pub read_again : (r : Record) (rest : List ℕ) → FitsSlot r → read (spelling r ++ rest) ≡ Holds r
 unfolding spelling spell_head
 read_again r rest sound =
     ap read (regroup (to_le_bytes w32 1) r.guid (to_le_bytes w64 r.committed) (to_le_bytes w32 (length r.links)) (flat_map spell_link r.links) rest)
@@ -157,12 +157,12 @@ read_again r rest sound =
     fits = omega (arith, sound.fits)
 
 -- the one spelling
-pub spells_spelling : (r : Record) → IsSound r → Spells r (spelling r)
+pub spells_spelling : (r : Record) → FitsSlot r → Spells r (spelling r)
 spells_spelling r sound = record { again = λ rest. read_again r rest sound }
 
 -- and with other bytes behind it
-pub spells_front : (r : Record) (more : List ℕ) → IsSound r → Spells r (spelling r ++ more)
+pub spells_front : (r : Record) (more : List ℕ) → FitsSlot r → Spells r (spelling r ++ more)
 spells_front r more sound = record { again = λ rest. ap read (append_assoc (spelling r) more rest) ∙ read_again r (more ++ rest) sound }
 
-pub sound_of : (r : Record) → length r.guid ≡ 16 → 112 ≤ r.committed → r.committed ≤ 2 ^ 62 → AreRising 84 r.links → EndWithin r.committed r.links → encoded_len r.links ≤ 262144 → IsSound r
+pub sound_of : (r : Record) → length r.guid ≡ 16 → 112 ≤ r.committed → r.committed ≤ 2 ^ 62 → AreRising 84 r.links → EndWithin r.committed r.links → encoded_len r.links ≤ 262144 → FitsSlot r
 sound_of r guid least greatest rising ends fits = record { guid = guid; least = least; greatest = greatest; rising = rising; ends = ends; fits = fits }

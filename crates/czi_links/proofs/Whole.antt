@@ -11,10 +11,10 @@ use Rattle.czi_links.specs.Record.{Bytes, AreRising, next_place, spell_link}
 use Rattle.czi_format.specs.Bytes.{u32_bytes, u64_bytes}
 use Rattle.czi_links.proofs.Again.{length-spell_link}
 use Rattle.czi_links.proofs.Rising.{rising_more}
-use Rattle.czi_links.specs.WriteSet.{WriteSet, IsWhole, link_in, links_in}
+use Rattle.czi_links.specs.WriteSet.{WriteSet, IsWholeBlock, link_in, links_in}
 
 -- none
-pub none_whole : IsWhole [] []
+pub none_whole : IsWholeBlock [] []
 none_whole = record { within = All-nil (λ (e : Entry). e.at + e.len ≤ 0); spelt = refl; rising = tt }
 
 map-append : {A B : Type 0} (f : A → B) (xs ys : List A) → map f (xs ++ ys) ≡ map f xs ++ map f ys
@@ -62,7 +62,7 @@ last_link : (block : List ℕ) (place : ℕ) (bytes : List ℕ) → link_in (blo
 unfolding spell_link
 last_link block place bytes = ap (λ (bs : List ℕ). record { place = place; bytes = bs }) (bytes_spelt block bytes (u64_bytes place) (u32_bytes (length bytes)) refl refl)
 
-links_more : (block : List ℕ) (entries : List Entry) (place : ℕ) (bytes : List ℕ) → IsWhole block entries
+links_more : (block : List ℕ) (entries : List Entry) (place : ℕ) (bytes : List ℕ) → IsWholeBlock block entries
     → links_in (block ++ spell_link (record { place = place; bytes = bytes })) (entries ++ record { place = place; at = length block + 12; len = length bytes } ∷ []) ≡ links_in block entries ++ record { place = place; bytes = bytes } ∷ []
 links_more block entries place bytes whole =
     let more : List ℕ = spell_link (record { place = place; bytes = bytes }) in
@@ -71,7 +71,7 @@ links_more block entries place bytes whole =
     ∙ ap (λ (ls : List Bytes). ls ++ link_in (block ++ more) last ∷ []) (same_links block more entries whole.within)
     ∙ ap (λ (l : Bytes). links_in block entries ++ l ∷ []) (last_link block place bytes)
 
-pub added_links : {block : List ℕ} {entries : List Entry} {place : ℕ} {bytes new_block : List ℕ} {new_entries : List Entry} → Added block entries place bytes new_block new_entries → IsWhole block entries
+pub added_links : {block : List ℕ} {entries : List Entry} {place : ℕ} {bytes new_block : List ℕ} {new_entries : List Entry} → Added block entries place bytes new_block new_entries → IsWholeBlock block entries
     → links_in new_block new_entries ≡ links_in block entries ++ record { place = place; bytes = bytes } ∷ []
 added_links {block = block} {entries = entries} {place = place} {bytes = bytes} {new_entries = new_entries} a whole =
     ap (λ (b : List ℕ). links_in b new_entries) a.block_is
@@ -84,8 +84,8 @@ more_within block more entries last within fits =
     let P : Entry → Type 0 = λ e. e.at + e.len ≤ length (block ++ more) in
     All-push P entries last (All-weaker (λ (e : Entry). e.at + e.len ≤ length block) P (λ e le. omega (arith, le, length-append block more)) entries within) fits
 
-more_whole : (block : List ℕ) (entries : List Entry) (place : ℕ) (bytes : List ℕ) → IsWhole block entries → next_place 84 (links_in block entries) ≤ place → 1 ≤ length bytes
-    → IsWhole (block ++ spell_link (record { place = place; bytes = bytes })) (entries ++ record { place = place; at = length block + 12; len = length bytes } ∷ [])
+more_whole : (block : List ℕ) (entries : List Entry) (place : ℕ) (bytes : List ℕ) → IsWholeBlock block entries → next_place 84 (links_in block entries) ≤ place → 1 ≤ length bytes
+    → IsWholeBlock (block ++ spell_link (record { place = place; bytes = bytes })) (entries ++ record { place = place; at = length block + 12; len = length bytes } ∷ [])
 more_whole block entries place bytes whole begins some =
     let l : Bytes = record { place = place; bytes = bytes } in
     let last : Entry = record { place = place; at = length block + 12; len = length bytes } in
@@ -99,18 +99,18 @@ more_whole block entries place bytes whole begins some =
     flat_map_last : (f : Bytes → List ℕ) (ls : List Bytes) (l : Bytes) → flat_map f (ls ++ l ∷ []) ≡ flat_map f ls ++ f l
     flat_map_last f ls l = flat_map-append f ls (l ∷ []) ∙ ap (λ (b : List ℕ). flat_map f ls ++ b) (append-nil (f l))
 
-pub added_whole : {block : List ℕ} {entries : List Entry} {place : ℕ} {bytes new_block : List ℕ} {new_entries : List Entry} → Added block entries place bytes new_block new_entries → IsWhole block entries
-    → next_place 84 (links_in block entries) ≤ place → 1 ≤ length bytes → IsWhole new_block new_entries
+pub added_whole : {block : List ℕ} {entries : List Entry} {place : ℕ} {bytes new_block : List ℕ} {new_entries : List Entry} → Added block entries place bytes new_block new_entries → IsWholeBlock block entries
+    → next_place 84 (links_in block entries) ≤ place → 1 ≤ length bytes → IsWholeBlock new_block new_entries
 added_whole {block = block} {entries = entries} {place = place} {bytes = bytes} {new_entries = new_entries} a whole begins some =
     let more : List ℕ = block ++ spell_link (record { place = place; bytes = bytes }) in
-    subst (λ (b : List ℕ). IsWhole b new_entries) (sym a.block_is) (subst (IsWhole more) (sym a.entries_are) (more_whole block entries place bytes whole begins some))
+    subst (λ (b : List ℕ). IsWholeBlock b new_entries) (sym a.block_is) (subst (IsWholeBlock more) (sym a.entries_are) (more_whole block entries place bytes whole begins some))
 
 -- how long the block is
 length_spelt : (ls : List Bytes) → length (flat_map spell_link ls) ≡ 12 * length ls + sum_by (λ (l : Bytes). length l.bytes) ls
 length_spelt [] = refl
 length_spelt (l ∷ ls) = omega (arith, length-append (spell_link l) (flat_map spell_link ls), length-spell_link l, length_spelt ls, sum_by-cons (λ (l : Bytes). length l.bytes) l ls)
 
-pub block_len : (block : List ℕ) (entries : List Entry) → IsWhole block entries → length block ≡ 12 * length entries + sum_by (λ (l : Bytes). length l.bytes) (links_in block entries)
+pub block_len : (block : List ℕ) (entries : List Entry) → IsWholeBlock block entries → length block ≡ 12 * length entries + sum_by (λ (l : Bytes). length l.bytes) (links_in block entries)
 block_len block entries whole = omega (arith, ap length whole.spelt, length_spelt (links_in block entries), length-map entries (link_in block))
 
 pub same_set : (v w : WriteSet) → v.links ≡ w.links → v.spare_links ≡ w.spare_links → v.spare_bytes ≡ w.spare_bytes → v ≡ w
@@ -119,8 +119,8 @@ same_set v w links spare_links spare_bytes =
     ∙ ap (λ (n : ℕ). record { links = w.links; spare_links = n; spare_bytes = v.spare_bytes }) spare_links
     ∙ ap (λ (n : ℕ). record { links = w.links; spare_links = w.spare_links; spare_bytes = n }) spare_bytes
 
-pub emptied_whole : (block : List ℕ) (entries : List Entry) → block ≡ [] → entries ≡ [] → IsWhole block entries
-emptied_whole block entries is are = subst (λ (b : List ℕ). IsWhole b entries) (sym is) (subst (IsWhole []) (sym are) none_whole)
+pub emptied_whole : (block : List ℕ) (entries : List Entry) → block ≡ [] → entries ≡ [] → IsWholeBlock block entries
+emptied_whole block entries is are = subst (λ (b : List ℕ). IsWholeBlock b entries) (sym is) (subst (IsWholeBlock []) (sym are) none_whole)
 
 pub emptied_links : (block : List ℕ) (entries : List Entry) → entries ≡ [] → links_in block entries ≡ []
 emptied_links block entries are = ap (links_in block) are

@@ -5,6 +5,7 @@ use Rattle.czi_links.specs.declared.head.SlotHead.{SlotHead}
 use Rattle.czi_links.specs.declared.head.LinkFault.{LinkFault}
 use Rattle.czi_links.specs.declared.head.LinkFault.TheVariants.{Version, Bad, Memory}
 use Rattle.czi_links.specs.Record.{Bytes, Record, AreRising, EndWithin, record_of}
+use Rattle.czi_links.specs.declared.numbers.TheConstants.{LEAST_LENGTH, FIRST_PLACE}
 
 -- what a slot or a whole journal says
 pub data Reading : Type 0 where
@@ -47,8 +48,8 @@ holds guid committed (Err place) = BadAt place
 abbrev pub read_fields : (version committed count : ℕ) → List ℕ → List ℕ → Reading
 read_fields version committed count guid rest =
     if version == 1
-    then (if nat_le 112 committed && nat_le committed (2 ^ 62)
-    then holds guid committed (links_at count 32 84 committed rest)
+    then (if nat_le LEAST_LENGTH committed && nat_le committed (2 ^ 62)
+    then holds guid committed (links_at count 32 FIRST_PLACE committed rest)
     else BadAt 20)
     else OfVersion version
 
@@ -57,9 +58,9 @@ read slot = read_fields (u32_at slot 0) (u64_at slot 20) (u32_at slot 28) (bytes
 
 -- what every record that is read has
 pub record IsRead (r : Record) : Type 0 where
-  pub least : 112 ≤ r.committed
+  pub least : LEAST_LENGTH ≤ r.committed
   pub greatest : r.committed ≤ 2 ^ 62
-  pub rising : AreRising 84 r.links
+  pub rising : AreRising FIRST_PLACE r.links
   pub ends : EndWithin r.committed r.links
 
 -- the bytes, with any others behind them in the slot, are read as this record

@@ -3,6 +3,7 @@ use Rattle.std.specs.Prelude.{◌≡◌, ℕ, ◌+◌, ◌≤◌, ◌^◌, List,
 use Rattle.std.specs.List.{flat_map}
 use Rattle.czi_format.specs.Bytes.{u32_bytes, u64_bytes}
 use Rattle.czi_links.specs.declared.head.SlotHead.{SlotHead}
+use Rattle.czi_links.specs.declared.numbers.TheConstants.{LEAST_LENGTH, FIRST_PLACE, SLOT_LEN}
 
 -- a link: bytes that are to stand at a place of the image
 pub record Bytes : Type 0 where
@@ -48,13 +49,13 @@ abbrev pub encoded_len : List Bytes → ℕ
 encoded_len ls = 32 + length (flat_map spell_link ls)
 
 -- a record that fits a slot
-pub record IsSound (r : Record) : Type 0 where
+pub record FitsSlot (r : Record) : Type 0 where
   pub guid : length r.guid ≡ 16
-  pub least : 112 ≤ r.committed
+  pub least : LEAST_LENGTH ≤ r.committed
   pub greatest : r.committed ≤ 2 ^ 62
-  pub rising : AreRising 84 r.links
+  pub rising : AreRising FIRST_PLACE r.links
   pub ends : EndWithin r.committed r.links
-  pub fits : encoded_len r.links ≤ 262144
+  pub fits : encoded_len r.links ≤ SLOT_LEN
 
 abbrev pub record_of : SlotHead → List Bytes → Record
 record_of head links = record { guid = head.guid; committed = head.length; links = links }

@@ -3,6 +3,7 @@ use Rattle.std.specs.Prelude.{◌≡◌, ℕ, ◌+◌, ◌*◌, ◌≤◌, List,
 use Rattle.std.specs.List.{flat_map}
 use Rattle.czi_links.specs.Record.{Bytes, AreRising, spell_link}
 use Rattle.czi_links.specs.declared.write_set.Entry.{Entry}
+use Rattle.czi_links.specs.declared.numbers.TheConstants.{FIRST_PLACE}
 
 -- the links, and how many more links with how many more bytes can be pushed without taking memory
 pub record WriteSet : Type 0 where
@@ -18,10 +19,10 @@ abbrev pub links_in : List ℕ → List Entry → List Bytes
 links_in block entries = map (λ (e : Entry). link_in block e) entries
 
 -- The block is the spelling of the links, and each entry says where in it the bytes of its link stand.
-pub record IsWhole (block : List ℕ) (entries : List Entry) : Type 0 where
+pub record IsWholeBlock (block : List ℕ) (entries : List Entry) : Type 0 where
   pub within : All (λ (e : Entry). e.at + e.len ≤ length block) entries
   pub spelt : block ≡ flat_map spell_link (links_in block entries)
-  pub rising : AreRising 84 (links_in block entries)
+  pub rising : AreRising FIRST_PLACE (links_in block entries)
 
 -- a list of `len` elements in memory for `capacity` has room for more
 pub record HasRoom (len more capacity : ℕ) : Type 0 where

@@ -4,14 +4,9 @@ ghost use Rattle.czi_links.specs.Record.{record_of};
 ghost use Rattle.czi_links.specs.Reading.{AreLinks, IsAnswer, IsRead, IsWithin, KeepsRules, links_at, read};
 
 use crate::head::{LinkFault, RECORD_HEAD, SlotHead, VERSION};
+use crate::numbers::{FIRST_PLACE, LEAST_LENGTH};
 use crate::write_set::{LINK_HEAD, Links};
 use czi_num::{read_bytes, read_u32, read_u64};
-
-/// The first place at which a link may begin, behind the GUIDs of the file header.
-const FIRST_PLACE: u64 = 84;
-
-/// The least committed length: the file header's data has 80 bytes that are read.
-const SHORTEST: u64 = 112;
 
 /// The greatest committed length.
 const LONGEST: u64 = 1 << 62;
@@ -33,7 +28,7 @@ pub fn decode(slot: &[u8], into: &mut Links) -> Result<SlotHead, LinkFault>
         return Err(LinkFault::Version(version));
     }
     let length = read_u64(slot, 20);
-    if length < SHORTEST || length > LONGEST {
+    if length < LEAST_LENGTH || length > LONGEST {
         return Err(LinkFault::Bad(20));
     }
     let count = read_u32(slot, 28);
@@ -51,7 +46,7 @@ pub fn decode(slot: &[u8], into: &mut Links) -> Result<SlotHead, LinkFault>
 fn read_links(slot: &[u8], count: u32, limit: u64, into: &mut Links) -> Result<(), LinkFault>
     requires head { 32 ≤ length slot.now }
     requires empty { into.old.links ≡ [] }
-    ensures links { AreLinks (links_at count 32 84 limit (drop 32 slot.now)) into.new.links result }
+    ensures links { AreLinks (links_at count 32 FIRST_PLACE limit (drop 32 slot.now)) into.new.links result }
     ensures place { IfErr result (IsWithin (length slot.now)) }
 {
     let mut at = RECORD_HEAD;

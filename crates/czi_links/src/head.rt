@@ -3,6 +3,7 @@ ghost use Rattle.czi_format.specs.Bytes.{put_at};
 ghost use Rattle.czi_links.specs.Record.{record_of, spell_head, spelling};
 ghost use Rattle.czi_links.specs.Reading.{Spells};
 
+use crate::numbers::LEAST_LENGTH;
 use czi_num::{write_bytes, write_u32, write_u64};
 use std::alloc::AllocError;
 
@@ -26,7 +27,7 @@ impl SlotHead {
     /// bytes behind it, it gives the head again.
     pub fn encode(&self, slot: &mut [u8])
         requires room { 32 ≤ length slot.old }
-        requires least { 112 ≤ self.now.length }
+        requires least { LEAST_LENGTH ≤ self.now.length }
         requires greatest { self.now.length ≤ 2 ^ 62 }
         ensures bytes { slot.new ≡ spelling (record_of self.now []) ++ drop 32 slot.old }
         ensures read_again { Spells (record_of self.now []) slot.new }

@@ -18,8 +18,10 @@
 
 mod decoding;
 mod head;
+mod numbers;
 mod write_set;
 
 pub use decoding::decode;
 pub use head::{LinkFault, SlotHead};
+pub use numbers::{FIRST_PLACE, LEAST_LENGTH, SLOT_LEN};
 pub use write_set::Links;

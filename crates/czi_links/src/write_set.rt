@@ -4,6 +4,7 @@ ghost use Rattle.czi_links.specs.Record.{AreRising, EndWithin, encoded_len, next
 ghost use Rattle.czi_links.specs.Reading.{Spells};
 
 use crate::head::{RECORD_HEAD, SlotHead, write_head};
+use crate::numbers::{FIRST_PLACE, LEAST_LENGTH, SLOT_LEN};
 use czi_num::write_bytes;
 use std::alloc::{AllocError, Global};
 use std::marker::Model;
@@ -38,13 +39,13 @@ pub struct Links {
 impl Model for Links {
     ghost use Rattle.std.specs.Prelude.{◌<◌, ◌+◌, ◌^◌};
     ghost use Rattle.std.specs.Vec.{vec_len, vec_capacity};
-    ghost use Rattle.czi_links.specs.WriteSet.{WriteSet, IsWhole, HasRoom, block_bytes, links_in};
+    ghost use Rattle.czi_links.specs.WriteSet.{WriteSet, IsWholeBlock, HasRoom, block_bytes, links_in};
 
     ghost Value = { WriteSet };
 
     ghost view = { λ s. record { links = links_in s.block.items s.entries.items; spare_links = s.spare_links; spare_bytes = s.spare_bytes } };
 
-    ghost invariant = { λ s. IsWhole s.block.items s.entries.items
+    ghost invariant = { λ s. IsWholeBlock s.block.items s.entries.items
         × HasRoom (vec_len s.entries) s.spare_links (vec_capacity s.entries)
         × HasRoom (vec_len s.block) (block_bytes s.spare_links s.spare_bytes) (vec_capacity s.block)
         × (vec_len s.block + block_bytes s.spare_links s.spare_bytes < 2 ^ 32) };
@@ -89,7 +90,7 @@ impl Links {
         requires spare { 1 ≤ self.old.spare_links }
         requires room { length bytes.now ≤ self.old.spare_bytes }
         requires some { 1 ≤ length bytes.now }
-        requires rising { next_place 84 self.old.links ≤ place }
+        requires rising { next_place FIRST_PLACE self.old.links ≤ place }
         ensures { self.new ≡ record { links = self.old.links ++ record { place = place; bytes = bytes.now } ∷ []; spare_links = self.old.spare_links - 1; spare_bytes = self.old.spare_bytes - length bytes.now } }
     {
         let at = self.block.len() + LINK_HEAD;
@@ -112,8 +113,8 @@ impl Links {
     /// Writes the record of the links and the head. Read as a slot, with any bytes behind it, it gives them again.
     pub fn encode(&self, head: &SlotHead, out: &mut [u8])
         requires whole { length out.old ≡ encoded_len self.now.links }
-        requires fits { length out.old ≤ 262144 }
-        requires least { 112 ≤ head.now.length }
+        requires fits { length out.old ≤ SLOT_LEN }
+        requires least { LEAST_LENGTH ≤ head.now.length }
         requires greatest { head.now.length ≤ 2 ^ 62 }
         requires ends { EndWithin head.now.length self.now.links }
         ensures bytes { out.new ≡ spelling (record_of head.now self.now.links) }
@@ -136,7 +137,7 @@ impl Links {
     /// How many links there are.
     pub fn count(&self) -> usize
         ensures count { result ≡ length self.now.links }
-        ensures rising { AreRising 84 self.now.links }
+        ensures rising { AreRising FIRST_PLACE self.now.links }
     {
         self.entries.len()
     }

@@ -9,17 +9,17 @@ use Rattle.czi_format.specs.Live.{Live, segments}
 use Rattle.czi_format.specs.Segment.{Segment, segment_at, extent, header_bytes, deleted_id}
 use Rattle.czi_format.specs.Shows.{Reaches}
 use Rattle.czi_format.specs.Space.{same_span}
-use Rattle.czi_format.specs.Span.{Span, end_of, is_aligned}
+use Rattle.czi_format.specs.Span.{Span, end_of, is_aligned, IsWhole, LiesInOne}
 use Rattle.czi_format.specs.Walk.{stands_at, is_name}
 use Rattle.czi_format.proofs.Written.{header_again}
-use Rattle.czi_machine.specs.Cover.{between, cover, Chained, IsWhole, LiesInOne}
+use Rattle.czi_machine.specs.Cover.{between, cover, Chained}
 use Rattle.czi_machine.specs.Edit.{after}
-use Rattle.czi_machine.specs.Laws.{Leads, Lies, LiesLoosely}
+use Rattle.czi_machine.specs.Laws.{Leads, Lies, LiesInImage}
 use Rattle.czi_machine.specs.Places.{can_be_used, live_places}
-use Rattle.czi_machine.specs.Sound.{live_spans, IsExact, IsSound, dead_held, IsTidy}
+use Rattle.czi_machine.specs.Sound.{live_spans, IsGapless, IsGaplessState, dead_held, IsDisjointState}
 use Rattle.czi_machine.specs.State.{State, held, spans_of, not_among, held_by, items_of}
-use Rattle.czi_machine.specs.Tiled.{IsTiled, here, tiled_layout}
-use Rattle.czi_machine.specs.Turn.{Turn, turned, effect_of, LiesAt, SpansAt}
+use Rattle.czi_machine.specs.Tiled.{IsGaplessImage, here, tiled_layout}
+use Rattle.czi_machine.specs.LiveChange.{LiveChange, changed_live, effect_of, LiesAt, SpansAt}
 use Rattle.czi_machine.specs.Writes.{deleted_segment, IsLong, AreOnce, PutsDeleted, dead, marked, Writes, head}
 use Rattle.czi_machine.specs.Written.{Piece, IsClear, Wrote}
 use Rattle.czi_machine.proofs.Clear.{whole_long, HeaderAt, header_at_front, segment_clear, stands_still, turned_cover, heads_within, nothing_written}
@@ -48,19 +48,19 @@ filtered_spans P q [] all = tt
 filtered_spans P q (p ∷ ps) all = elim (cases_Bool (q p)) [ inl e ↦ rw e (all.0, filtered_spans P q ps all.1) | inr e ↦ rw e (filtered_spans P q ps all.1) ]
 
 -- what is live afterwards, and the marked extents, have no place twice
-pub once_after : (s s' : State) (live : Live) (t : Turn) (image : List ℕ) → LiesLoosely image live s → Led s s' → SpansAt s'.layout (turned t live) → AreOnce live t (marked s.layout s'.layout)
+pub once_after : (s s' : State) (live : Live) (t : LiveChange) (image : List ℕ) → LiesInImage image live s → Led s s' → SpansAt s'.layout (changed_live t live) → AreOnce live t (marked s.layout s'.layout)
 once_after s s' live t image lies l at =
     let dead_long : AllByRecursion IsLong (dead s.layout s'.layout) =
     filtered_spans IsLong (λ (p : Place). not (can_be_used p)) (not_among (spans_of (live_places s'.layout)) (live_places s.layout))
     (filtered_spans IsLong _ (live_places s.layout) (subst (AllByRecursion IsLong) (sym (all_spans s.layout live lies.extents)) (extents_long (segments live))).1) in
     record {
-      once = λ p. omega (arith, l.marks p, ap (λ z. cover z p) (all_spans s'.layout (turned t live) at), cover-append s'.layout.deleted (dead s.layout s'.layout) p);
+      once = λ p. omega (arith, l.marks p, ap (λ z. cover z p) (all_spans s'.layout (changed_live t live) at), cover-append s'.layout.deleted (dead s.layout s'.layout) p);
       long = All-both IsLong s'.layout.deleted (dead s.layout s'.layout) (whole_long s'.layout.deleted l.tidy.deleted_whole) dead_long;
     }
 
-pub any_commanded : (image other : List ℕ) (s s' : State) (live : Live) (t : Turn) (pieces : List Piece) → LiesLoosely image live s → IsTidy s → Leads s s'
-    → SpansAt s'.layout (turned t live) → s'.document ≡ after (effect_of other t) s.document
-    → Writes image other t live s.layout s'.layout pieces → LiesLoosely other (turned t live) s'
+pub any_commanded : (image other : List ℕ) (s s' : State) (live : Live) (t : LiveChange) (pieces : List Piece) → LiesInImage image live s → IsDisjointState s → Leads s s'
+    → SpansAt s'.layout (changed_live t live) → s'.document ≡ after (effect_of other t) s.document
+    → Writes image other t live s.layout s'.layout pieces → LiesInImage other (changed_live t live) s'
 any_commanded image other s s' live t pieces lies is leads at document_is w =
     let l : Led s s' = led s s' is leads in
     let marks : List Span = marked s.layout s'.layout in
@@ -74,7 +74,7 @@ any_commanded image other s s' live t pieces lies is leads at document_is w =
     }
 
 -- a held span lies in one DELETED extent, or has no place in any
-held_in_or_apart : (s : State) → IsTidy s → AllByRecursion (λ (h : Span). LiesInOne h s.layout.deleted ⊎ ((p : ℕ) → 1 ≤ between h.at (end_of h) p → cover s.layout.deleted p ≡ 0)) (held s)
+held_in_or_apart : (s : State) → IsDisjointState s → AllByRecursion (λ (h : Span). LiesInOne h s.layout.deleted ⊎ ((p : ℕ) → 1 ≤ between h.at (end_of h) p → cover s.layout.deleted p ≡ 0)) (held s)
 held_in_or_apart s is = usable_or_apart (λ h. LiesInOne h s.layout.deleted) (held_by (items_of s.layout) s.formers) s.layout.deleted (λ p. cover (dead_held s) p) is.held_in (λ p. omega arith) (λ p. omega (arith, is.once p))
 
 -- spans that have no place from some place on end there or before
@@ -150,7 +150,7 @@ nothing_there : (at n m : ℕ) (a b : List ℕ) → n ≡ 0 → bytes_at a at n 
 unfolding bytes_at
 nothing_there at n m a b none = rw none
 
-pub any_held_kept : (image other : List ℕ) (s s' : State) (live : Live) (t : Turn) (pieces : List Piece) → LiesLoosely image live s → IsTidy s → Leads s s' → SpansAt s'.layout (turned t live)
+pub any_held_kept : (image other : List ℕ) (s s' : State) (live : Live) (t : LiveChange) (pieces : List Piece) → LiesInImage image live s → IsDisjointState s → Leads s s' → SpansAt s'.layout (changed_live t live)
     → Writes image other t live s.layout s'.layout pieces
     → AllByRecursion (λ (h : Span). bytes_at other (h.at + 32) (h.len - 32) ≡ bytes_at image (h.at + 32) (h.len - 32)) (held s')
 any_held_kept image other s s' live t pieces lies is leads at w =
@@ -160,7 +160,7 @@ any_held_kept image other s s' live t pieces lies is leads at w =
     let L : List Span = spans_of (live_places s.layout) in
     let H : Segment = live.header.segment in
     let front : HeaderAt image H = header_at_front image live lies.reaches in
-    let spans : live_spans s'.layout ≡ map extent (segments (turned t live)) = all_spans s'.layout (turned t live) at in
+    let spans : live_spans s'.layout ≡ map extent (segments (changed_live t live)) = all_spans s'.layout (changed_live t live) at in
     let longer : length image ≤ length other = omega (arith, l.longer, lies.length, w.long) in
     let dead_long : AllByRecursion IsLong G =
     filtered_spans IsLong (λ (p : Place). not (can_be_used p)) (not_among (spans_of (live_places s'.layout)) (live_places s.layout))
@@ -292,33 +292,33 @@ all_deleted other (e ∷ es) all =
     record { segments = all.0.segment ∷ rest.segments; are = λ i. all.0.is i ∷ rest.are i; stand = (all.0.stands, rest.stand); named = (all.0.named, rest.named) }
 
 -- where the layout fills the image, all that was live can be used again
-nothing_dead : (l l' : Layout) → IsExact l → dead l l' ≡ []
+nothing_dead : (l l' : Layout) → IsGapless l → dead l l' ≡ []
 nothing_dead l l' is = ap spans_of (none_pass can_be_used (not_among (spans_of (live_places l')) (live_places l)) (All-filter _ _ (live_places l) (usable_places l is)))
 
 -- What is known of an image into which a command was written, and of the state to which the command leads.
-pub record Written (image other : List ℕ) (live : Live) (s s' : State) (t : Turn) (pieces : List Piece) : Type 0 where
+pub record Written (image other : List ℕ) (live : Live) (s s' : State) (t : LiveChange) (pieces : List Piece) : Type 0 where
   pub tiles : Tiling image live s
-  pub sound : IsSound s'
-  pub total : (p : ℕ) → cover (map extent (segments (turned t live))) p + (cover s'.layout.deleted p + cover (map extent tiles.unknown) p) ≡ between 0 s'.layout.length p
+  pub sound : IsGaplessState s'
+  pub total : (p : ℕ) → cover (map extent (segments (changed_live t live))) p + (cover s'.layout.deleted p + cover (map extent tiles.unknown) p) ≡ between 0 s'.layout.length p
   pub marks : marked s.layout s'.layout ≡ s'.layout.deleted
   pub once : AreOnce live t (marked s.layout s'.layout)
   pub header : s'.layout.header ≡ here live.header.segment
-  pub spans : SpansAt s'.layout (turned t live)
+  pub spans : SpansAt s'.layout (changed_live t live)
   pub unknown : s'.layout.unknown ≡ map extent tiles.unknown
   pub longer : length image ≤ s'.layout.length
 
-pub was_written : (image other : List ℕ) (s s' : State) (live : Live) (t : Turn) (pieces : List Piece) → Lies image live s → IsSound s → Leads s s' → LiesAt s'.layout (turned t live)
+pub was_written : (image other : List ℕ) (s s' : State) (live : Live) (t : LiveChange) (pieces : List Piece) → Lies image live s → IsGaplessState s → Leads s s' → LiesAt s'.layout (changed_live t live)
     → Written image other live s s' t pieces
 was_written image other s s' live t pieces lies is leads at =
     let l : Led s s' = led s s' (sound_tidy s is) leads in
-    let sound : IsSound s' = l.sound is in
+    let sound : IsGaplessState s' = l.sound is in
     let tl : Tiling image live s = tiling image live s lies in
-    let exact : IsExact s'.layout = sound.layout in
+    let exact : IsGapless s'.layout = sound.layout in
     let header : s'.layout.header ≡ here live.header.segment = ap (λ (z : Layout). z.header) l.layout ∙ ap (λ (z : Layout). z.header) tl.layout in
     let unknown : s'.layout.unknown ≡ map extent tl.unknown = ap (λ (z : Layout). z.unknown) l.layout ∙ ap (λ (z : Layout). z.unknown) tl.layout in
-    let at' : SpansAt s'.layout (turned t live) = lies_spans s'.layout (turned t live) header at in
-    let spans : live_spans s'.layout ≡ map extent (segments (turned t live)) = all_spans s'.layout (turned t live) at' in
-    let total : (p : ℕ) → cover (map extent (segments (turned t live))) p + (cover s'.layout.deleted p + cover (map extent tl.unknown) p) ≡ between 0 s'.layout.length p =
+    let at' : SpansAt s'.layout (changed_live t live) = lies_spans s'.layout (changed_live t live) header at in
+    let spans : live_spans s'.layout ≡ map extent (segments (changed_live t live)) = all_spans s'.layout (changed_live t live) at' in
+    let total : (p : ℕ) → cover (map extent (segments (changed_live t live))) p + (cover s'.layout.deleted p + cover (map extent tl.unknown) p) ≡ between 0 s'.layout.length p =
     λ p. omega (arith, exact.once p, ap (λ z. cover z p) spans, ap (λ z. cover z p) unknown) in
     let marks : marked s.layout s'.layout ≡ s'.layout.deleted = ap (λ z. s'.layout.deleted ++ z) (nothing_dead s.layout s'.layout is.layout) ∙ append-nil s'.layout.deleted in
     record {
@@ -334,21 +334,21 @@ was_written image other s s' live t pieces lies is leads at =
     }
 
 -- The theorem.
-pub commanded : (image other : List ℕ) (s s' : State) (live : Live) (t : Turn) (pieces : List Piece) → Lies image live s → IsSound s → Leads s s'
-    → LiesAt s'.layout (turned t live) → s'.document ≡ after (effect_of other t) s.document
-    → Writes image other t live s.layout s'.layout pieces → Lies other (turned t live) s'
+pub commanded : (image other : List ℕ) (s s' : State) (live : Live) (t : LiveChange) (pieces : List Piece) → Lies image live s → IsGaplessState s → Leads s s'
+    → LiesAt s'.layout (changed_live t live) → s'.document ≡ after (effect_of other t) s.document
+    → Writes image other t live s.layout s'.layout pieces → Lies other (changed_live t live) s'
 commanded image other s s' live t pieces lies is leads at document_is w =
     let k : Written image other live s s' t pieces = was_written image other s s' live t pieces lies is leads at in
     let tl : Tiling image live s = k.tiles in
-    let live' : Live = turned t live in
+    let live' : Live = changed_live t live in
     let D : List Span = s'.layout.deleted in
     let ds : List Segment = tl.deleted in
     let us : List Segment = tl.unknown in
     let H : Segment = live.header.segment in
-    let exact : IsExact s'.layout = k.sound.layout in
+    let exact : IsGapless s'.layout = k.sound.layout in
     let longer : length image ≤ length other = omega (arith, k.longer, w.long) in
     let front : HeaderAt image H = header_at_front image live lies.reaches in
-    let loosely : LiesLoosely other live' s' = any_commanded image other s s' live t pieces (lies_loosely image live s lies) (sound_tidy s is) leads k.spans document_is w in
+    let loosely : LiesInImage other live' s' = any_commanded image other s s' live t pieces (lies_loosely image live s lies) (sound_tidy s is) leads k.spans document_is w in
     let reaches : Reaches other live' = loosely.reaches in
     let stood = parts (λ (x : Segment). stands_at image x.at ≡ Some x) live ds us tl.tiled.stand in
     let inside : AllByRecursion (λ (e : Span). end_of e ≤ length other) D = ends_before D (length other) (All-weaken IsWhole (λ (e : Span). 0 < e.len) (λ e h. h.some) D exact.deleted_whole) (λ p h. omega (arith, k.total p, between_high 0 s'.layout.length p (omega (arith, h, w.long)))) in
@@ -388,7 +388,7 @@ commanded image other s s' live t pieces lies is leads at document_is w =
     let aligned : (xs : List Segment) → AllByRecursion IsWhole (map extent xs) → AllByRecursion (λ (x : Segment). is_aligned (extent x) ≡ true) xs =
     λ xs all. All-weaken (λ (x : Segment). IsWhole (extent x)) _ (λ x e. whole_aligned (extent x) e) xs (All-map extent IsWhole xs all) in
     let ds' : List Segment = d.segments in
-    let is' : IsTiled other live' ds' us = record {
+    let is' : IsGaplessImage other live' ds' us = record {
       stand = All-both _ (segments live') (ds' ++ us) (All-weaken (StandsLive other) _ (λ x h. h.stands) (segments live') lives) (All-both _ ds' us d.stand us_stand);
       aligned = All-both _ (segments live') (ds' ++ us) (aligned (segments live') (subst (AllByRecursion IsWhole) spans exact.live_whole))
           (All-both _ ds' us (aligned ds' (subst (AllByRecursion IsWhole) (sym d.are) exact.deleted_whole)) (aligned us (subst (AllByRecursion IsWhole) k.unknown exact.unknown_whole)));
@@ -420,8 +420,8 @@ commanded image other s s' live t pieces lies is leads at document_is w =
     }
 
 -- the bytes of held spans past their first 32
-pub held_kept : (image other : List ℕ) (s s' : State) (live : Live) (t : Turn) (pieces : List Piece) → Lies image live s → IsSound s → Leads s s'
-    → LiesAt s'.layout (turned t live) → Writes image other t live s.layout s'.layout pieces
+pub held_kept : (image other : List ℕ) (s s' : State) (live : Live) (t : LiveChange) (pieces : List Piece) → Lies image live s → IsGaplessState s → Leads s s'
+    → LiesAt s'.layout (changed_live t live) → Writes image other t live s.layout s'.layout pieces
     → AllByRecursion (λ (h : Span). bytes_at other (h.at + 32) (h.len - 32) ≡ bytes_at image (h.at + 32) (h.len - 32)) (held s')
 held_kept image other s s' live t pieces lies is leads at w =
     any_held_kept image other s s' live t pieces (lies_loosely image live s lies) (sound_tidy s is) leads (was_written image other s s' live t pieces lies is leads at).spans w

@@ -9,7 +9,7 @@ use Rattle.czi_format.specs.Segment.{Segment, extent, data_of}
 use Rattle.czi_format.specs.Space.{same_span}
 use Rattle.czi_format.specs.Span.{Span}
 use Rattle.czi_format.proofs.Local.{All-append}
-use Rattle.czi_machine.specs.Change.{Act, keep, omit, bring, changed, brought, mapped, Setting, same, to, set, set_new, mapped_setting}
+use Rattle.czi_machine.specs.Change.{Act, keep, omit, bring, changed, brought, mapped, Setting, to, set, set_new, mapped_setting}
 use Rattle.czi_machine.specs.Edit.{after}
 use Rattle.czi_machine.specs.Formers.{Lain, tile_place, attachment_place, metadata_place, Return, return_items, brought_back, LiesHeld, BringBack}
 use Rattle.czi_machine.specs.State.{Items, Former, held_by, item_places, item_spans, spans_of, not_among}

@@ -8,13 +8,13 @@ use Rattle.czi_format.specs.Live.{Live, FileHeader, Directory, Tile, AttItem, Me
 use Rattle.czi_format.specs.Same.{SameExtent}
 use Rattle.czi_format.specs.Segment.{Segment, segment_at, extent, file_id}
 use Rattle.czi_format.specs.Shows.{Reaches}
-use Rattle.czi_format.specs.Span.{Span, end_of}
+use Rattle.czi_format.specs.Span.{Span, end_of, IsWhole}
 use Rattle.czi_format.specs.Walk.{stands_at, is_name}
 use Rattle.czi_format.proofs.Local.{All-append, header_is}
 use Rattle.czi_format.proofs.Readings.{bind_some, given_some, is_sound, segment_stands}
 use Rattle.czi_machine.specs.Change.{Act, changed, kept, brought, Setting, same, to, set, set_new, set_kept}
-use Rattle.czi_machine.specs.Cover.{between, cover, IsWhole}
-use Rattle.czi_machine.specs.Turn.{Turn, turned, new_segments, kept_segments}
+use Rattle.czi_machine.specs.Cover.{between, cover}
+use Rattle.czi_machine.specs.LiveChange.{LiveChange, changed_live, new_segments, kept_segments}
 use Rattle.czi_machine.specs.Writes.{head, IsLong, AreOnce, writable, WritesIn}
 use Rattle.czi_machine.specs.Written.{Piece, byte_of, IsClear, Wrote}
 use Rattle.czi_machine.proofs.Changing.{All-kept, cover-changed}
@@ -48,7 +48,7 @@ cover_set f same None p = refl
 cover_set f c old p = omega arith
 
 -- what is live afterwards: the file header, what is kept, and what is new
-pub turned_cover : (live : Live) (t : Turn) (p : ℕ) → cover (map extent (segments (turned t live))) p
+pub turned_cover : (live : Live) (t : LiveChange) (p : ℕ) → cover (map extent (segments (changed_live t live))) p
     ≡ between live.header.segment.at (end_of (extent live.header.segment)) p + (cover (map extent (kept_segments t live)) p + cover (map extent (new_segments t)) p)
 turned_cover live t p =
     let d : Directory → Segment = λ x. x.segment in
@@ -75,7 +75,7 @@ All-set P f (to new) old all = tt
 All-listed : {X : Type 0} (P : Segment → Type 0) (f : X → Segment) (c : List (Act X)) (xs : List X) → AllByRecursion P (map f xs) → AllByRecursion P (map f (kept c xs))
 All-listed P f c xs all = map-All f P (kept c xs) (All-kept (λ x. P (f x)) c xs (All-map f P xs all))
 
-pub kept_have : (P : Segment → Type 0) (live : Live) (t : Turn) → AllByRecursion P (reached live) → AllByRecursion P (kept_segments t live)
+pub kept_have : (P : Segment → Type 0) (live : Live) (t : LiveChange) → AllByRecursion P (reached live) → AllByRecursion P (kept_segments t live)
 kept_have P live t all =
     let d : Directory → Segment = λ x. x.segment in
     let i : Tile → Segment = λ x. x.segment in
@@ -103,17 +103,17 @@ heads_within (e ∷ es) p all =
     ]
 
 -- where is written: pointers, what is new, or a DELETED extent
-writable_cover : (t : Turn) (marks : List Span) (p : ℕ) → AllByRecursion IsLong marks
+writable_cover : (t : LiveChange) (marks : List Span) (p : ℕ) → AllByRecursion IsLong marks
     → cover (writable t marks) p ≤ between 84 100 p + (between 104 112 p + (cover (map extent (new_segments t)) p + cover marks p))
 writable_cover t marks p whole = omega (arith, cover-append (map extent (new_segments t)) (map head marks) p, heads_within marks p whole)
 
 -- a place that isn't writable isn't written
-pub nothing_written : (h : FileHeader) (t : Turn) (marks : List Span) (pieces : List Piece) (q : ℕ) → WritesIn h t marks pieces
+pub nothing_written : (h : FileHeader) (t : LiveChange) (marks : List Span) (pieces : List Piece) (q : ℕ) → WritesIn h t marks pieces
     → between 84 100 q + (between 104 112 q + (cover (map extent (new_segments t)) q + cover (map head marks) q)) ≡ 0 → byte_of pieces q ≡ None
 nothing_written h t marks pieces q around none = no_byte (byte_of pieces q) (λ b e. omega (arith, around.within q b e, cover-append (map extent (new_segments t)) (map head marks) q, none))
 
 -- a place that is none of these isn't written
-pub not_written : (h : FileHeader) (t : Turn) (marks : List Span) (pieces : List Piece) (q : ℕ) → WritesIn h t marks pieces → AllByRecursion IsLong marks
+pub not_written : (h : FileHeader) (t : LiveChange) (marks : List Span) (pieces : List Piece) (q : ℕ) → WritesIn h t marks pieces → AllByRecursion IsLong marks
     → between 84 100 q + (between 104 112 q + (cover (map extent (new_segments t)) q + cover marks q)) ≡ 0 → byte_of pieces q ≡ None
 not_written h t marks pieces q around whole none = no_byte (byte_of pieces q) (λ b e. omega (arith, around.within q b e, writable_cover t marks q whole, none))
 
@@ -133,7 +133,7 @@ header_at_front image live reaches =
     record { place = sym first; large = head.1; inside = omega (arith, stands.inside, first) }
 
 -- the file header is written at its pointers alone
-pub header_clear : (image : List ℕ) (live : Live) (t : Turn) (marks : List Span) (pieces : List Piece) (from end : ℕ) → HeaderAt image live.header.segment → WritesIn live.header t marks pieces → AreOnce live t marks
+pub header_clear : (image : List ℕ) (live : Live) (t : LiveChange) (marks : List Span) (pieces : List Piece) (from end : ℕ) → HeaderAt image live.header.segment → WritesIn live.header t marks pieces → AreOnce live t marks
     → end ≤ 112 → ((q : ℕ) → from ≤ q → q < end → between 84 100 q + between 104 112 q ≡ 0) → IsClear pieces from end
 header_clear image live t marks pieces from end at around once fits out q low high =
     not_written live.header t marks pieces q around once.long (omega (
@@ -145,7 +145,7 @@ header_clear image live t marks pieces from end at around once fits out q low hi
     ))
 
 -- a segment that has no place with what is new, with DELETED extents or with the file header isn't written
-pub segment_clear : (image : List ℕ) (live : Live) (t : Turn) (marks : List Span) (pieces : List Piece) (s : Segment) → HeaderAt image live.header.segment → WritesIn live.header t marks pieces → AreOnce live t marks
+pub segment_clear : (image : List ℕ) (live : Live) (t : LiveChange) (marks : List Span) (pieces : List Piece) (s : Segment) → HeaderAt image live.header.segment → WritesIn live.header t marks pieces → AreOnce live t marks
     → ((p : ℕ) → between s.at (end_of (extent s)) p + (between live.header.segment.at (end_of (extent live.header.segment)) p + (cover (map extent (new_segments t)) p + cover marks p)) ≤ 1)
     → IsClear pieces s.at (end_of (extent s)) × (112 ≤ s.at)
 segment_clear image live t marks pieces s at around once apart =
@@ -165,7 +165,7 @@ segment_clear image live t marks pieces s at around once apart =
     )
 
 -- so it is as before
-pub segment_kept : (image other : List ℕ) (live : Live) (t : Turn) (marks : List Span) (pieces : List Piece) (s : Segment) → HeaderAt image live.header.segment → WritesIn live.header t marks pieces → AreOnce live t marks
+pub segment_kept : (image other : List ℕ) (live : Live) (t : LiveChange) (marks : List Span) (pieces : List Piece) (s : Segment) → HeaderAt image live.header.segment → WritesIn live.header t marks pieces → AreOnce live t marks
     → Wrote image other pieces → length image ≤ length other → end_of (extent s) ≤ length image
     → ((p : ℕ) → between s.at (end_of (extent s)) p + (between live.header.segment.at (end_of (extent live.header.segment)) p + (cover (map extent (new_segments t)) p + cover marks p)) ≤ 1)
     → SameExtent image other s
@@ -173,7 +173,7 @@ segment_kept image other live t marks pieces s at around once wrote longer insid
     let c = segment_clear image live t marks pieces s at around once apart in
     clear_bytes image other pieces s.at (32 + s.allocated) wrote c.0 inside (omega (arith, inside, longer)) (inr (omega (arith, c.1)))
 
-pub all_kept : (image other : List ℕ) (live : Live) (t : Turn) (marks : List Span) (pieces : List Piece) → Reaches image live → WritesIn live.header t marks pieces → AreOnce live t marks
+pub all_kept : (image other : List ℕ) (live : Live) (t : LiveChange) (marks : List Span) (pieces : List Piece) → Reaches image live → WritesIn live.header t marks pieces → AreOnce live t marks
     → Wrote image other pieces → length image ≤ length other → AllByRecursion (SameExtent image other) (kept_segments t live)
 all_kept image other live t marks pieces reaches around once wrote longer =
     let at = header_at_front image live reaches in

@@ -19,12 +19,12 @@ use Rattle.czi_machine.specs.Change.{Act, changed, mapped, Setting, same, to, se
 use Rattle.czi_machine.specs.Cover.{between, cover}
 use Rattle.czi_machine.specs.Edit.{DocumentEffect, after}
 use Rattle.czi_machine.specs.Formers.{Return, BringBack, present, Lain, return_effect, return_items, brought_back, LiesHeld, undoing}
-use Rattle.czi_machine.specs.Laws.{LiesLoosely, Leads}
+use Rattle.czi_machine.specs.Laws.{LiesInImage, Leads}
 use Rattle.czi_machine.specs.Machine.{after_effect, after_undo, after_undo_of, as_refusal, edited, restored, kept_formers}
-use Rattle.czi_machine.specs.Places.{stays, fresh, Next, Placed, Fitted, fit_each, fit_option, subblock_need, attachment_need, metadata_need, edit_next, undo_next, placed, laid, relaid, staying, items_asked, space_of}
-use Rattle.czi_machine.specs.Sound.{IsTidy}
+use Rattle.czi_machine.specs.Places.{stays, fresh, AskedLayout, Placed, Fitted, fit_each, fit_option, subblock_need, attachment_need, metadata_need, edit_asks, undo_asks, placed, laid, relaid, staying, items_asked, space_of}
+use Rattle.czi_machine.specs.Sound.{IsDisjointState}
 use Rattle.czi_machine.specs.State.{Items, Former, State, held, items_of, item_places, item_spans, spans_of, not_among, held_by}
-use Rattle.czi_machine.specs.Turn.{Turn, turned, effect_of, SpansAt}
+use Rattle.czi_machine.specs.LiveChange.{LiveChange, changed_live, effect_of, SpansAt}
 use Rattle.czi_machine.specs.Writes.{Writes, marked}
 use Rattle.czi_machine.specs.Written.{Piece}
 use Rattle.czi_machine.specs.Table.{fit_brought}
@@ -34,7 +34,7 @@ use Rattle.czi_machine.proofs.Asking.{going_back}
 use Rattle.czi_machine.proofs.Inverse.{SameShape, SameSetting, placed_shape, IsRead, is_read, contents_back, place_by, places_back, left_out_have, left_out_items, setting_contents_back, setting_places_back, left_out_setting, left_out_setting_items, rejoined_setting, All-rejoined, All-omitted, omitted_mapped, set_omitted_mapped}
 use Rattle.czi_machine.proofs.Leaving.{cover-leaving, none_among}
 use Rattle.czi_machine.proofs.Nexts.{edit_goes_back, edit_is_next}
-use Rattle.czi_machine.proofs.Placing.{IsNext, Placing, used_is, used_covered, few_items, cover-live_places, live_parts, covers_own, placing}
+use Rattle.czi_machine.proofs.Placing.{IsAsked, Placing, used_is, used_covered, few_items, cover-live_places, live_parts, covers_own, placing}
 use Rattle.czi_machine.proofs.Steady.{on_all}
 use Rattle.czi_machine.proofs.TableSubblocks.{placed_change, each_brought, option_stays, asked_by, items_leave, new_moves}
 use Rattle.czi_machine.proofs.Tiled.{All-filter, All-map, map-All, All-weaken}
@@ -53,9 +53,9 @@ pub record Restored (s s' : State) (f : Former) (formers : List Former) : Type 0
 
 pub undo_restores : (s s' : State) (f : Former) (formers : List Former) → s.formers ≡ f ∷ formers → after_undo s ≡ Ok s' → Restored s s' f formers
 undo_restores s s' f formers newest e =
-    on_ok (with_fault as_refusal (laid s (undo_next s f))) _ s' (sym (ap (after_undo_of s) newest) ∙ e) λ l l_is done.
-    on_ok (placed s.layout (space_of s) (undo_next s f)) _ l (no_fault as_refusal (laid s (undo_next s f)) l l_is) λ pl pl_is laid_is.
-    let n : Next = undo_next s f in
+    on_ok (with_fault as_refusal (laid s (undo_asks s f))) _ s' (sym (ap (after_undo_of s) newest) ∙ e) λ l l_is done.
+    on_ok (placed s.layout (space_of s) (undo_asks s f)) _ l (no_fault as_refusal (laid s (undo_asks s f)) l l_is) λ pl pl_is laid_is.
+    let n : AskedLayout = undo_asks s f in
     let its : relaid s.layout n pl ≡ l = ok_is (relaid s.layout n pl) l laid_is in
     let whole : restored s f formers (relaid s.layout n pl) ≡ s' = ap (restored s f formers) its ∙ ok_is _ s' done in
     let items : pl.items ≡ f.items = undo_places s f pl pl_is in
@@ -72,8 +72,8 @@ with_edits image newer n [] [] b = tt
 with_edits image newer n (r ∷ returns) (f ∷ formers) b = b
 with_edits image newer n returns formers b = absurd b
 
-pub undos_bring_back : (image other : List ℕ) (s s' : State) (live : Live) (t : Turn) (pieces : List Piece) (r : Return) (returns : List Return) → LiesLoosely image live s → IsTidy s
-    → after_undo s ≡ Ok s' → SpansAt s'.layout (turned t live) → Writes image other t live s.layout s'.layout pieces
+pub undos_bring_back : (image other : List ℕ) (s s' : State) (live : Live) (t : LiveChange) (pieces : List Piece) (r : Return) (returns : List Return) → LiesInImage image live s → IsDisjointState s
+    → after_undo s ≡ Ok s' → SpansAt s'.layout (changed_live t live) → Writes image other t live s.layout s'.layout pieces
     → BringBack image (present s) (r ∷ returns) s.formers → BringBack other (present s') returns s'.formers
 undos_bring_back image other s s' live t pieces r returns lies is e at w back = on_formers s.formers refl back
   where
@@ -89,14 +89,14 @@ undos_bring_back image other s s' live t pieces r returns lies is e at w back = 
 -- An edit, and where it put things.
 pub record Made (s s' : State) (e : DocumentEffect) : Type 0 where
   pub at : Placed
-  pub there : placed s.layout (space_of s) (edit_next s e) ≡ Ok at
-  pub whole : edited s 1 (after e s.document) (relaid s.layout (edit_next s e) at) ≡ s'
+  pub there : placed s.layout (space_of s) (edit_asks s e) ≡ Ok at
+  pub whole : edited s 1 (after e s.document) (relaid s.layout (edit_asks s e) at) ≡ s'
 
 pub edit_makes : (s s' : State) (f : DocumentEffect) → after_effect s f ≡ Ok s' → Made s s' f
 edit_makes s s' f goes =
-    on_ok (with_fault as_refusal (laid s (edit_next s f))) _ s' goes λ l l_is done.
-    on_ok (placed s.layout (space_of s) (edit_next s f)) _ l (no_fault as_refusal (laid s (edit_next s f)) l l_is) λ pl pl_is laid_is.
-    let its : relaid s.layout (edit_next s f) pl ≡ l = ok_is (relaid s.layout (edit_next s f) pl) l laid_is in
+    on_ok (with_fault as_refusal (laid s (edit_asks s f))) _ s' goes λ l l_is done.
+    on_ok (placed s.layout (space_of s) (edit_asks s f)) _ l (no_fault as_refusal (laid s (edit_asks s f)) l l_is) λ pl pl_is laid_is.
+    let its : relaid s.layout (edit_asks s f) pl ≡ l = ok_is (relaid s.layout (edit_asks s f) pl) l laid_is in
     record {
       at = pl;
       there = pl_is;
@@ -104,7 +104,7 @@ edit_makes s s' f goes =
     }
 
 -- The items after it are those before, changed at the same places.
-pub record ChangedLike (t : Turn) (l : Layout) (i : Items) : Type 0 where
+pub record ChangedLike (t : LiveChange) (l : Layout) (i : Items) : Type 0 where
   pub tiles : List (Act Place)
   pub tiles_shape : SameShape t.tiles tiles
   pub subblocks : i.subblocks ≡ changed tiles l.subblocks
@@ -130,10 +130,10 @@ setting_like l space need g same old r e = (same, tt, ap (λ (z : Fitted (Option
 setting_like l space need g (to None) old r e = (to None, tt, ap (λ (z : Fitted (Option Place)). z.places) (sym (ok_is _ r e)))
 setting_like l space need g (to (Some x)) old r e = (to r.places, tt, refl)
 
-pub items_like : (image : List ℕ) (s : State) (t : Turn) (pl : Placed) → placed s.layout (space_of s) (edit_next s (effect_of image t)) ≡ Ok pl → ChangedLike t s.layout pl.items
+pub items_like : (image : List ℕ) (s : State) (t : LiveChange) (pl : Placed) → placed s.layout (space_of s) (edit_asks s (effect_of image t)) ≡ Ok pl → ChangedLike t s.layout pl.items
 items_like image s t pl e =
     let l : Layout = s.layout in
-    let n : Next = edit_next s (effect_of image t) in
+    let n : AskedLayout = edit_asks s (effect_of image t) in
     on_ok (fit_each l (space_of s) n.subblocks) _ pl e λ a a_is e1.
     on_ok (fit_each l a.space n.attachments) _ pl e1 λ b b_is e2.
     on_ok (fit_option l b.space n.metadata) _ pl e2 λ m m_is e3.
@@ -156,16 +156,16 @@ items_like image s t pl e =
     }
 
 -- the items that leave
-unfoldable pub gone_items : State → Next → List Place
+unfoldable pub gone_items : State → AskedLayout → List Place
 gone_items s n = not_among (staying (items_asked n)) (item_places (items_of s.layout))
 
 -- they aren't among the items afterwards
-pub gone_new : (s s' : State) (e : DocumentEffect) (pl : Placed) → IsTidy s → IsTidy s' → Placing s (edit_next s e) pl → items_of s'.layout ≡ pl.items
-    → AllByRecursion (λ (q : Place). list_any (same_span q.span) (item_spans pl.items) ≡ false) (gone_items s (edit_next s e))
+pub gone_new : (s s' : State) (e : DocumentEffect) (pl : Placed) → IsDisjointState s → IsDisjointState s' → Placing s (edit_asks s e) pl → items_of s'.layout ≡ pl.items
+    → AllByRecursion (λ (q : Place). list_any (same_span q.span) (item_spans pl.items) ≡ false) (gone_items s (edit_asks s e))
 unfolding gone_items
 gone_new s s' e pl is is' at items_are =
-    let n : Next = edit_next s e in
-    let nx : IsNext s n = edit_is_next s e is in
+    let n : AskedLayout = edit_asks s e in
+    let nx : IsAsked s n = edit_is_next s e is in
     let gone : List Place = not_among (staying (items_asked n)) (item_places (items_of s.layout)) in
     let some : AllByRecursion (λ (q : Place). 0 < q.span.len) gone = All-filter _ _ (item_places (items_of s.layout)) (live_parts (λ (q : Place). 0 < q.span.len) s.layout is.some.1).0 in
     let left : (p : ℕ) → cover (spans_of gone) p + cover (staying (items_asked n)) p ≡ cover (item_spans (items_of s.layout)) p =
@@ -196,13 +196,13 @@ gone_new s s' e pl is is' at items_are =
 -- After an edit, what undoes it brings back the document before it, and the older ones are brought back as they were.
 
 -- what is known of the places of what is left out
-record LeftOut (P : Place → Type 0) (t : Turn) (l : Layout) : Type 0 where
+record LeftOut (P : Place → Type 0) (t : LiveChange) (l : Layout) : Type 0 where
   tiles : AllByRecursion P (omitted t.tiles l.subblocks)
   attachments : AllByRecursion P (omitted t.attachments l.attachments)
   metadata : AllByRecursion P (option_to_list (set_omitted t.metadata l.metadata))
 
 -- they are the items that leave
-left_out : (image : List ℕ) (s : State) (t : Turn) (P : Place → Type 0) → IsTidy s → AllByRecursion P (gone_items s (edit_next s (effect_of image t))) → LeftOut P t s.layout
+left_out : (image : List ℕ) (s : State) (t : LiveChange) (P : Place → Type 0) → IsDisjointState s → AllByRecursion P (gone_items s (edit_asks s (effect_of image t))) → LeftOut P t s.layout
 unfolding gone_items asked_by
 left_out image s t P is all =
     let e : DocumentEffect = effect_of image t in
@@ -229,7 +229,7 @@ record SameContents (image other : List ℕ) (live : Live) : Type 0 where
   attachments : AllByRecursion (λ (x : AttItem). data_of other x.segment ≡ data_of image x.segment) live.attachments
   metadata : AllByRecursion (λ (x : MetaItem). data_of other x.segment ≡ data_of image x.segment) (option_to_list live.metadata)
 
-same_contents : (image other : List ℕ) (l : Layout) (live : Live) (t : Turn) → SpansAt l live → Kept image other live t → LeftOut (λ (p : Place). SameBehind image other p.span) t l → SameContents image other live
+same_contents : (image other : List ℕ) (l : Layout) (live : Live) (t : LiveChange) → SpansAt l live → Kept image other live t → LeftOut (λ (p : Place). SameBehind image other p.span) t l → SameContents image other live
 same_contents image other l live t at k out =
     let P : Span → Type 0 = SameBehind image other in
     record {
@@ -254,7 +254,7 @@ same_contents image other l live t at k out =
     kept_setting (to c) o all = tt
 
 -- What undoes an edit brings back the document and where its items lay.
-back_again : (image other : List ℕ) (n : ℕ) (s s' : State) (live : Live) (t : Turn) → SpansAt s.layout live → SameContents image other live → s.document ≡ document image live → s'.document ≡ after (effect_of other t) s.document
+back_again : (image other : List ℕ) (n : ℕ) (s s' : State) (live : Live) (t : LiveChange) → SpansAt s.layout live → SameContents image other live → s.document ≡ document image live → s'.document ≡ after (effect_of other t) s.document
     → ChangedLike t s.layout (items_of s'.layout) → (let z : Former = record (present s) { edits = n } in z) ≡ brought_back other (undoing n t live s.layout) (present s')
 back_again image other n s s' live t at alike shown edited_is like =
     let l : Layout = s.layout in
@@ -286,7 +286,7 @@ record IsKnown {X : Type 0} (other id : List ℕ) (position : X → ℤ) (read :
   place : position x ≡ pos (segment x).at
 
 -- What undoes an edit is read where it was, and what it brings isn't among the items.
-lies_held : (image other : List ℕ) (n : ℕ) (s s' : State) (live : Live) (t : Turn) → Reaches image live → SpansAt s.layout live → SameContents image other live
+lies_held : (image other : List ℕ) (n : ℕ) (s s' : State) (live : Live) (t : LiveChange) → Reaches image live → SpansAt s.layout live → SameContents image other live
     → LeftOut (λ (q : Place). list_any (same_span q.span) (item_spans (items_of s'.layout)) ≡ false) t s.layout → LiesHeld other (items_of s'.layout) (undoing n t live s.layout)
 lies_held image other n s s' live t reaches at alike out =
     let l : Layout = s.layout in
@@ -320,17 +320,17 @@ lies_held image other n s s' live t reaches at alike out =
         (record { reads = ap (meta_item m.segment) d.0 ∙ r.reads; id_is = r.id_is; sound = r.sound; place = r.place }, tt)
 
 -- after an edit of which what it brings was placed
-pub placed_bring_back : (image other : List ℕ) (m : ℕ) (s s' : State) (live : Live) (t : Turn) (pieces : List Piece) (returns : List Return) (pl : Placed) → LiesLoosely image live s → IsTidy s
-    → Leads s s' → Placing s (edit_next s (effect_of other t)) pl → edited s m (after (effect_of other t) s.document) (relaid s.layout (edit_next s (effect_of other t)) pl) ≡ s' → ChangedLike t s.layout pl.items
-    → SpansAt s'.layout (turned t live) → Writes image other t live s.layout s'.layout pieces
+pub placed_bring_back : (image other : List ℕ) (m : ℕ) (s s' : State) (live : Live) (t : LiveChange) (pieces : List Piece) (returns : List Return) (pl : Placed) → LiesInImage image live s → IsDisjointState s
+    → Leads s s' → Placing s (edit_asks s (effect_of other t)) pl → edited s m (after (effect_of other t) s.document) (relaid s.layout (edit_asks s (effect_of other t)) pl) ≡ s' → ChangedLike t s.layout pl.items
+    → SpansAt s'.layout (changed_live t live) → Writes image other t live s.layout s'.layout pieces
     → BringBack image (present s) returns s.formers → BringBack other (present s') (undoing m t live s.layout ∷ take (kept_formers m s) returns) s'.formers
 placed_bring_back image other m s s' live t pieces returns pl lies is leads pp whole like' at w back =
     let e : DocumentEffect = effect_of other t in
     let K : ℕ = kept_formers m s in
     let new : Former = record (present s) { edits = m } in
     let ld : Led s s' = led s s' is leads in
-    let is' : IsTidy s' = ld.tidy in
-    let n : Next = edit_next s e in
+    let is' : IsDisjointState s' = ld.tidy in
+    let n : AskedLayout = edit_asks s e in
     let its : items_of s'.layout ≡ pl.items = ap (λ (z : State). items_of z.layout) (sym whole) in
     let like : ChangedLike t s.layout (items_of s'.layout) = subst (ChangedLike t s.layout) (sym its) like' in
     let out_new : LeftOut (λ (q : Place). list_any (same_span q.span) (item_spans (items_of s'.layout)) ≡ false) t s.layout =
@@ -357,7 +357,7 @@ placed_bring_back image other m s s' live t pieces returns pl lies is leads pp w
     let all : BringBack other (present s') (undoing m t live s.layout ∷ take K returns) (new ∷ take K s.formers) = (first, read, with_edits other (present s) m (take K returns) (take K s.formers) older) in
     subst (BringBack other (present s') (undoing m t live s.layout ∷ take K returns)) (sym formers) all
   where
-    passing : (i : Items) (B : Place → Type 0) (l : Layout) (t : Turn) → AllByRecursion B (not_among (item_spans i) (item_places (items_of l)))
+    passing : (i : Items) (B : Place → Type 0) (l : Layout) (t : LiveChange) → AllByRecursion B (not_among (item_spans i) (item_places (items_of l)))
         → LeftOut (λ (q : Place). list_any (same_span q.span) (item_spans i) ≡ false) t l → LeftOut B t l
     passing i B l t all out =
         let q : Place → Bool = λ p. not (list_any (same_span p.span) (item_spans i)) in
@@ -375,13 +375,13 @@ placed_bring_back image other m s s' live t pieces returns pl lies is leads pp w
         of_setting P same o all = tt
         of_setting P (to c) o all = all
 
-pub edits_bring_back : (image other : List ℕ) (s s' : State) (live : Live) (t : Turn) (pieces : List Piece) (returns : List Return) → LiesLoosely image live s → IsTidy s
-    → after_effect s (effect_of other t) ≡ Ok s' → SpansAt s'.layout (turned t live) → Writes image other t live s.layout s'.layout pieces
+pub edits_bring_back : (image other : List ℕ) (s s' : State) (live : Live) (t : LiveChange) (pieces : List Piece) (returns : List Return) → LiesInImage image live s → IsDisjointState s
+    → after_effect s (effect_of other t) ≡ Ok s' → SpansAt s'.layout (changed_live t live) → Writes image other t live s.layout s'.layout pieces
     → BringBack image (present s) returns s.formers → BringBack other (present s') (undoing 1 t live s.layout ∷ take (kept_formers 1 s) returns) s'.formers
 edits_bring_back image other s s' live t pieces returns lies is goes at w back =
     let e : DocumentEffect = effect_of other t in
     let made : Made s s' e = edit_makes s s' e goes in
-    placed_bring_back image other 1 s s' live t pieces returns made.at lies is (inl (e, goes)) (placing s (edit_next s e) made.at is (edit_is_next s e is) made.there) made.whole (items_like other s t made.at made.there) at w back
+    placed_bring_back image other 1 s s' live t pieces returns made.at lies is (inl (e, goes)) (placing s (edit_asks s e) made.at is (edit_is_next s e is) made.there) made.whole (items_like other s t made.at made.there) at w back
 
 -- after a group
 put_shape : {W X : Type 0} (l : Layout) (g : W → X) (c : List (Act W)) (spans : List Span) → length spans ≡ length (brought (mapped g c)) → SameShape c (put_in l (mapped g c) spans)
@@ -397,7 +397,7 @@ unfolding SameSetting
 set_shape l g (to (Some x)) [] long = absurd (omega (arith, long))
 set_shape l g c spans long = tt
 
-placed_like : (other : List ℕ) (s : State) (t : Turn) (needs : List ℕ) (pl : Placed) → IsPlaced s (effect_of other t) needs pl → ChangedLike t s.layout pl.items
+placed_like : (other : List ℕ) (s : State) (t : LiveChange) (needs : List ℕ) (pl : Placed) → IsPlaced s (effect_of other t) needs pl → ChangedLike t s.layout pl.items
 placed_like other s t needs pl p =
     let items = ap (λ (z : Placed). z.items) p.is in
     record {
@@ -412,11 +412,11 @@ placed_like other s t needs pl p =
       metadata = ap (λ (i : Items). i.metadata) items;
     }
 
-pub groups_bring_back : (image other : List ℕ) (s s' : State) (live : Live) (t : Turn) (pieces : List Piece) (returns : List Return) → LiesLoosely image live s → IsTidy s
-    → (g : Groups s s') → g.effect ≡ effect_of other t → SpansAt s'.layout (turned t live) → Writes image other t live s.layout s'.layout pieces
+pub groups_bring_back : (image other : List ℕ) (s s' : State) (live : Live) (t : LiveChange) (pieces : List Piece) (returns : List Return) → LiesInImage image live s → IsDisjointState s
+    → (g : Groups s s') → g.effect ≡ effect_of other t → SpansAt s'.layout (changed_live t live) → Writes image other t live s.layout s'.layout pieces
     → BringBack image (present s) returns s.formers → BringBack other (present s') (undoing g.edits t live s.layout ∷ take (kept_formers g.edits s) returns) s'.formers
 groups_bring_back image other s s' live t pieces returns lies is g same_effect at w back =
     let p : IsPlaced s (effect_of other t) g.needs g.placed = subst (λ e. IsPlaced s e g.needs g.placed) same_effect g.places in
-    let goes : edited s g.edits (after (effect_of other t) s.document) (relaid s.layout (edit_next s (effect_of other t)) g.placed) ≡ s' =
-    ap (λ e. edited s g.edits (after e s.document) (relaid s.layout (edit_next s e) g.placed)) (sym same_effect) ∙ g.goes in
+    let goes : edited s g.edits (after (effect_of other t) s.document) (relaid s.layout (edit_asks s (effect_of other t)) g.placed) ≡ s' =
+    ap (λ e. edited s g.edits (after e s.document) (relaid s.layout (edit_asks s e) g.placed)) (sym same_effect) ∙ g.goes in
     placed_bring_back image other g.edits s s' live t pieces returns g.placed lies is (inr (inr g)) (placed_placing s (effect_of other t) g.needs g.placed is p) goes (placed_like other s t g.needs g.placed p) at w back

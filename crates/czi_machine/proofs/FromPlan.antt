@@ -16,12 +16,12 @@ use Rattle.czi_machine.specs.Change.{Act, keep, omit, bring, brought, mapped, Se
 use Rattle.czi_machine.specs.Cover.{between, cover}
 use Rattle.czi_format.specs.Data.{directory_data, attdir_data, subblock_data, attachment_data, metadata_data}
 use Rattle.czi_machine.specs.Edit.{DocumentEffect, after}
-use Rattle.czi_machine.specs.Laws.{Lies, LiesLoosely, Leads}
+use Rattle.czi_machine.specs.Laws.{Lies, LiesInImage, Leads}
 use Rattle.czi_machine.specs.Planned.{Brings, Sets, BringsTile, BringsAttachment, BringsMetadata, ListsTiles, ListsAttachments, Plans}
 use Rattle.czi_machine.specs.Puts.{HasRoom}
-use Rattle.czi_machine.specs.Sound.{live_spans, IsTidy, IsSound}
+use Rattle.czi_machine.specs.Sound.{live_spans, IsDisjointState, IsGaplessState}
 use Rattle.czi_machine.specs.State.{State}
-use Rattle.czi_machine.specs.Turn.{Turn, turned, new_segments, effect_of, LiesAt, SpansAt}
+use Rattle.czi_machine.specs.LiveChange.{LiveChange, changed_live, new_segments, effect_of, LiesAt, SpansAt}
 use Rattle.czi_machine.specs.Writes.{ReadsDirectory, ReadsAttdir, ReadsMetadata, Writes}
 use Rattle.czi_machine.specs.Written.{Piece, Wrote}
 use Rattle.czi_machine.proofs.AnyCommand.{any_commanded, commanded}
@@ -41,8 +41,8 @@ record HasPlace (n : ℕ) (x : Segment) : Type 0 where
   inside : x.at + 32 + x.allocated ≤ n
 
 -- What is new has a place.
-new_places : (n m : ℕ) (live : Live) (t : Turn) → live.header.segment.at ≡ 0 → 80 ≤ live.header.segment.allocated → ((p : ℕ) → cover (map extent (segments (turned t live))) p ≤ 1)
-    → ((p : ℕ) → m ≤ p → cover (map extent (segments (turned t live))) p ≡ 0) → n ≡ m → AllByRecursion (HasPlace n) (new_segments t)
+new_places : (n m : ℕ) (live : Live) (t : LiveChange) → live.header.segment.at ≡ 0 → 80 ≤ live.header.segment.allocated → ((p : ℕ) → cover (map extent (segments (changed_live t live))) p ≤ 1)
+    → ((p : ℕ) → m ≤ p → cover (map extent (segments (changed_live t live))) p ≡ 0) → n ≡ m → AllByRecursion (HasPlace n) (new_segments t)
 new_places n m live t place large few none long =
     let H : Segment = live.header.segment in
     let own : AllByRecursion (λ (x : Segment). (p : ℕ) → between x.at (end_of (extent x)) p ≤ cover (map extent (new_segments t)) p) (new_segments t) =
@@ -67,14 +67,14 @@ new_places n m live t place large few none long =
     }) (new_segments t) own
 
 -- The parts of what is new.
-record NewPlaces (n : ℕ) (t : Turn) : Type 0 where
+record NewPlaces (n : ℕ) (t : LiveChange) : Type 0 where
   directory : AllByRecursion (HasPlace n) (option_to_list (option_map (λ (d : Directory). d.segment) (set_new t.directory)))
   tiles : AllByRecursion (λ (x : Tile). HasPlace n x.segment) (brought t.tiles)
   attdir : AllByRecursion (HasPlace n) (option_to_list (option_map (λ (d : Directory). d.segment) (set_new t.attdir)))
   attachments : AllByRecursion (λ (x : AttItem). HasPlace n x.segment) (brought t.attachments)
   metadata : AllByRecursion (HasPlace n) (option_to_list (option_map (λ (m : MetaItem). m.segment) (set_new t.metadata)))
 
-new_parts : (n : ℕ) (t : Turn) → AllByRecursion (HasPlace n) (new_segments t) → NewPlaces n t
+new_parts : (n : ℕ) (t : LiveChange) → AllByRecursion (HasPlace n) (new_segments t) → NewPlaces n t
 new_parts n t all =
     let P : Segment → Type 0 = HasPlace n in
     let one = All-append P (option_to_list (option_map (λ (d : Directory). d.segment) (set_new t.directory))) _ all in
@@ -203,7 +203,7 @@ lists_attachments image other position pieces (to (Some d)) (Some was) old new f
 lists_attachments image other position pieces c was old new found read wrote longer small w r = w
 
 -- What a plan brings is read, and it is what the effect brings.
-reads_plan : (image other : List ℕ) (l l' : Layout) (live : Live) (e : DocumentEffect) (t : Turn) (pieces : List Piece) → Reaches image live → length image ≤ l'.length → Plans image l l' live e t pieces → Wrote image other pieces → length other ≡ l'.length
+reads_plan : (image other : List ℕ) (l l' : Layout) (live : Live) (e : DocumentEffect) (t : LiveChange) (pieces : List Piece) → Reaches image live → length image ≤ l'.length → Plans image l l' live e t pieces → Wrote image other pieces → length other ≡ l'.length
     → AllByRecursion (HasPlace (length other)) (new_segments t) → (effect_of other t ≡ e) × Writes image other t live l l' pieces
 reads_plan image other l l' live e t pieces reaches grows plan wrote long places =
     let longer : length image ≤ length other = omega (arith, grows, long) in
@@ -221,37 +221,37 @@ reads_plan image other l l' live e t pieces reaches grows plan wrote long places
         small = plan.small;
         around = plan.around;
         new = record {
-          directory = lists_tiles image other live.header.directory pieces t.directory live.directory live.tiles (turned t live).tiles reaches.directory reaches.entries wrote longer small plan.directory n.directory;
+          directory = lists_tiles image other live.header.directory pieces t.directory live.directory live.tiles (changed_live t live).tiles reaches.directory reaches.entries wrote longer small plan.directory n.directory;
           tiles = tiles.0;
-          attdir = lists_attachments image other live.header.attachments pieces t.attdir live.attdir live.attachments (turned t live).attachments reaches.attdir reaches.a1_entries wrote longer small plan.attdir n.attdir;
+          attdir = lists_attachments image other live.header.attachments pieces t.attdir live.attdir live.attachments (changed_live t live).attachments reaches.attdir reaches.a1_entries wrote longer small plan.attdir n.attdir;
           attachments = atts.0;
           metadata = meta.0;
         };
       },
     )
 
-pub plan_writes : (image other : List ℕ) (s s' : State) (live : Live) (e : DocumentEffect) (t : Turn) (pieces : List Piece) → LiesLoosely image live s → IsTidy s' → s.layout.length ≤ s'.layout.length
-    → SpansAt s'.layout (turned t live) → Plans image s.layout s'.layout live e t pieces
+pub plan_writes : (image other : List ℕ) (s s' : State) (live : Live) (e : DocumentEffect) (t : LiveChange) (pieces : List Piece) → LiesInImage image live s → IsDisjointState s' → s.layout.length ≤ s'.layout.length
+    → SpansAt s'.layout (changed_live t live) → Plans image s.layout s'.layout live e t pieces
     → Wrote image other pieces → length other ≡ s'.layout.length → (effect_of other t ≡ e) × Writes image other t live s.layout s'.layout pieces
 plan_writes image other s s' live e t pieces lies is' grows at plan wrote long =
     let front : HeaderAt image live.header.segment = header_at_front image live lies.reaches in
-    let spans : live_spans s'.layout ≡ map extent (segments (turned t live)) = all_spans s'.layout (turned t live) at in
+    let spans : live_spans s'.layout ≡ map extent (segments (changed_live t live)) = all_spans s'.layout (changed_live t live) at in
     let places : AllByRecursion (HasPlace (length other)) (new_segments t) = new_places (length other) s'.layout.length live t front.place front.large
     (λ p. omega (arith, is'.once p, ap (λ z. cover z p) spans)) (λ p h. omega (arith, is'.inside p h, ap (λ z. cover z p) spans)) long in
     reads_plan image other s.layout s'.layout live e t pieces lies.reaches (omega (arith, grows, lies.length)) plan wrote long places
 
-pub planned_anywhere : (image other : List ℕ) (s s' : State) (live : Live) (e : DocumentEffect) (t : Turn) (pieces : List Piece) → LiesLoosely image live s → IsTidy s → Leads s s'
-    → SpansAt s'.layout (turned t live) → s'.document ≡ after e s.document → Plans image s.layout s'.layout live e t pieces
-    → Wrote image other pieces → length other ≡ s'.layout.length → (effect_of other t ≡ e) × LiesLoosely other (turned t live) s'
+pub planned_anywhere : (image other : List ℕ) (s s' : State) (live : Live) (e : DocumentEffect) (t : LiveChange) (pieces : List Piece) → LiesInImage image live s → IsDisjointState s → Leads s s'
+    → SpansAt s'.layout (changed_live t live) → s'.document ≡ after e s.document → Plans image s.layout s'.layout live e t pieces
+    → Wrote image other pieces → length other ≡ s'.layout.length → (effect_of other t ≡ e) × LiesInImage other (changed_live t live) s'
 planned_anywhere image other s s' live e t pieces lies is leads at document_is plan wrote long =
     let read = plan_writes image other s s' live e t pieces lies (stays_tidy s s' is leads) (led s s' is leads).longer at plan wrote long in
     (read.0, any_commanded image other s s' live t pieces lies is leads at (document_is ∙ ap (λ z. after z s.document) (sym read.0)) read.1)
 
-pub planned : (image other : List ℕ) (s s' : State) (live : Live) (e : DocumentEffect) (t : Turn) (pieces : List Piece) → Lies image live s → IsSound s → Leads s s'
-    → SpansAt s'.layout (turned t live) → s'.document ≡ after e s.document → Plans image s.layout s'.layout live e t pieces
-    → Wrote image other pieces → length other ≡ s'.layout.length → (effect_of other t ≡ e) × Lies other (turned t live) s'
+pub planned : (image other : List ℕ) (s s' : State) (live : Live) (e : DocumentEffect) (t : LiveChange) (pieces : List Piece) → Lies image live s → IsGaplessState s → Leads s s'
+    → SpansAt s'.layout (changed_live t live) → s'.document ≡ after e s.document → Plans image s.layout s'.layout live e t pieces
+    → Wrote image other pieces → length other ≡ s'.layout.length → (effect_of other t ≡ e) × Lies other (changed_live t live) s'
 planned image other s s' live e t pieces lies is leads spans document_is plan wrote long =
-    let at : LiesAt s'.layout (turned t live) = spans_lie s'.layout (turned t live) (stays_sound s s' is leads).layout spans in
-    let tidy : IsTidy s = sound_tidy s is in
+    let at : LiesAt s'.layout (changed_live t live) = spans_lie s'.layout (changed_live t live) (stays_sound s s' is leads).layout spans in
+    let tidy : IsDisjointState s = sound_tidy s is in
     let read = plan_writes image other s s' live e t pieces (lies_loosely image live s lies) (stays_tidy s s' tidy leads) (led s s' tidy leads).longer spans plan wrote long in
     (read.0, commanded image other s s' live t pieces lies is leads at (document_is ∙ ap (λ z. after z s.document) (sym read.0)) read.1)

@@ -10,11 +10,11 @@ use Rattle.czi_format.specs.Span.{Span, inserted, sorted}
 use Rattle.czi_format.proofs.Rules.{on_ok}
 use Rattle.czi_machine.specs.Change.{Act, keep, omit, bring, brought, mapped, mapped_setting, and_then, Setting, same, to, set_new, set_and_then}
 use Rattle.czi_machine.specs.Cover.{cover}
-use Rattle.czi_machine.specs.Edit.{Edit, after, effect, found, fits}
+use Rattle.czi_machine.specs.Edit.{Edit, after, effect}
 use Rattle.czi_machine.specs.GroupOrder.{By, by, GroupEffect, done_by, effect_of_group, group_both, no_group, group_from, Need, needs_by, all_needs, need_le, in_order, span_of_edit, spans_by, group_placed, after_group}
 use Rattle.czi_machine.specs.Grouped.{fit_all, IsNeed, IsPlaced, Groups}
 use Rattle.czi_machine.specs.Machine.{as_refusal}
-use Rattle.czi_machine.specs.Places.{Placed, fit_option, edit_next, space_of, subblock_need, attachment_need, metadata_need}
+use Rattle.czi_machine.specs.Places.{Placed, fit_option, edit_asks, space_of, subblock_need, attachment_need, metadata_need}
 use Rattle.czi_machine.specs.State.{State}
 use Rattle.czi_machine.proofs.Leaving.{among_themselves}
 use Rattle.czi_machine.proofs.Led.{no_fault}
@@ -110,8 +110,8 @@ group_is_placed : (s : State) (g : GroupEffect) (pl : Placed) → ((k : ℕ) →
 group_is_placed s g pl once e =
     let ns : List Need = in_order g in
     on_ok (fit_all (space_of s) (map (λ (n : Need). n.need) ns)) _ pl e λ f f_is e1.
-    on_ok (fit_option s.layout f.space (edit_next s (effect_of_group g)).directory) _ pl e1 λ d d_is e2.
-    on_ok (fit_option s.layout d.space (edit_next s (effect_of_group g)).attdir) _ pl e2 λ x x_is e3.
+    on_ok (fit_option s.layout f.space (edit_asks s (effect_of_group g)).directory) _ pl e1 λ d d_is e2.
+    on_ok (fit_option s.layout d.space (edit_asks s (effect_of_group g)).attdir) _ pl e2 λ x x_is e3.
     let T : List Span = spans_by ns f.spans (brought g.subblocks) in
     let A : List Span = spans_by ns f.spans (brought g.attachments) in
     let M : List Span = spans_by ns f.spans (option_to_list (set_new g.metadata)) in

@@ -1,25 +1,25 @@
 -- What an edit brings, placed in any order.
-use Rattle.std.proofs.Common.{◌≡◌, ℕ, ◌+◌, ◌<◌, List, [], ◌∷◌, ◌++◌, map, length, true, Option, Some, None, Ok, option_map, option_to_list, refl, ap, sym, ◌∙◌, arith, subst, inl, inr}
+use Rattle.std.proofs.Common.{◌≡◌, ℕ, ◌<◌, List, [], ◌∷◌, ◌++◌, map, length, true, Option, Some, None, Ok, option_map, option_to_list, refl, ap, sym, ◌∙◌, arith, subst, inl, inr}
 use Rattle.std.specs.List.{AllByRecursion, list_any}
 use Rattle.std.proofs.lemmas.Bool.{cases_Bool}
 use Rattle.czi_format.specs.Layout.{Place, Layout}
 use Rattle.czi_format.specs.Space.{Space, fit, same_span}
-use Rattle.czi_format.specs.Span.{Span}
+use Rattle.czi_format.specs.Span.{Span, IsWhole}
 use Rattle.czi_format.proofs.Local.{All-append}
 use Rattle.czi_format.proofs.Rules.{on_ok}
 use Rattle.czi_machine.specs.Change.{Act, keep, omit, bring, changed, brought, mapped, Setting, same, to, set, set_new, mapped_setting}
-use Rattle.czi_machine.specs.Cover.{cover, IsWhole}
+use Rattle.czi_machine.specs.Cover.{cover}
 use Rattle.czi_machine.specs.Edit.{DocumentEffect}
 use Rattle.czi_machine.specs.Grouped.{FitAll, fit_all, put_in, set_in, IsNeed, IsPlaced}
-use Rattle.czi_machine.specs.Places.{Asked, stays, fresh, Next, Placed, new_place, staying, items_asked, edit_next, space_of, subblock_need, attachment_need, metadata_need}
-use Rattle.czi_machine.specs.Sound.{IsTidy}
+use Rattle.czi_machine.specs.Places.{Asked, stays, fresh, AskedLayout, Placed, new_place, staying, items_asked, edit_asks, space_of, subblock_need, attachment_need, metadata_need}
+use Rattle.czi_machine.specs.Sound.{IsDisjointState}
 use Rattle.czi_machine.specs.State.{State, spans_of}
 use Rattle.czi_machine.proofs.Asking.{LieThere, lie_both, lie_nothing, IsGood, LieWell, going_back, or_true, fits_option, fits_both}
 use Rattle.czi_machine.proofs.Cover.{cover-append}
 use Rattle.czi_machine.proofs.Fitting.{IsSpace, Uses, uses_nothing, uses_both, fit_uses}
 use Rattle.czi_machine.proofs.Leaving.{same_self, same_is, among_behind}
 use Rattle.czi_machine.proofs.Nexts.{edit_is_next, edit_goes_back}
-use Rattle.czi_machine.proofs.Placing.{IsNext, Placing, is_space, live_parts}
+use Rattle.czi_machine.proofs.Placing.{IsAsked, Placing, is_space, live_parts}
 use Rattle.czi_machine.proofs.Tiled.{All-weaken}
 use Rattle.czi_machine.proofs.Restated.{ok_is}
 
@@ -85,11 +85,11 @@ all_among_whole : (ts xs : List Span) → AllByRecursion IsWhole xs → AllByRec
 all_among_whole [] xs all each = tt
 all_among_whole (t ∷ ts) xs all each = (among_whole t xs all each.0, all_among_whole ts xs all each.1)
 
-pub placed_placing : (s : State) (e : DocumentEffect) (needs : List ℕ) (pl : Placed) → IsTidy s → IsPlaced s e needs pl → Placing s (edit_next s e) pl
+pub placed_placing : (s : State) (e : DocumentEffect) (needs : List ℕ) (pl : Placed) → IsDisjointState s → IsPlaced s e needs pl → Placing s (edit_asks s e) pl
 placed_placing s e needs pl is p =
     let l : Layout = s.layout in
-    let n : Next = edit_next s e in
-    let nx : IsNext s n = edit_is_next s e is in
+    let n : AskedLayout = edit_asks s e in
+    let nx : IsAsked s n = edit_is_next s e is in
     let u : Uses (space_of s) p.fitted.space p.fitted.spans = uses_all (space_of s) needs p.fitted (is_space s is) p.good p.fits in
     let whole = all_among_whole (p.tiles ++ (p.attachments ++ p.metadata)) p.fitted.spans u.whole p.among in
     let w1 = All-append IsWhole p.tiles (p.attachments ++ p.metadata) whole in

@@ -1,26 +1,26 @@
--- What is live next, after an edit and after an undo.
+-- What is live asked_layout, after an edit and after an undo.
 use Rattle.std.proofs.Common.{◌≡◌, ℕ, ◌+◌, ◌%◌, ◌≤◌, ◌<◌, List, [], ◌∷◌, ◌++◌, map, Bool, true, false, Option, Some, None, option_map, option_to_list, refl, ap, sym, ◌∙◌, arith, subst, ◌⊎◌, inl, inr}
 use Rattle.std.specs.List.{AllByRecursion, list_any}
 use Rattle.std.proofs.lemmas.Bool.{cases_Bool}
 use Rattle.std.proofs.lemmas.List.{map-append}
 use Rattle.czi_format.specs.Document.{Document}
 use Rattle.czi_format.specs.Layout.{Place, Layout}
-use Rattle.czi_format.specs.Span.{Span, end_of}
+use Rattle.czi_format.specs.Span.{Span, end_of, IsWhole}
 use Rattle.czi_format.specs.Space.{same_span}
 use Rattle.czi_format.proofs.Local.{All-append}
 use Rattle.czi_machine.specs.Change.{Act, keep, omit, bring, changed, mapped, Setting, same, to, set, mapped_setting}
-use Rattle.czi_machine.specs.Cover.{between, cover, IsWhole}
+use Rattle.czi_machine.specs.Cover.{between, cover}
 use Rattle.czi_machine.specs.Edit.{DocumentEffect, after}
-use Rattle.czi_machine.specs.Places.{Asked, stays, fresh, directories_asked, next, edit_next, undo_next, stays_or_back, keeps_directory, keeps_attdir, directory_asked, subblock_need, attachment_need, metadata_need, directory_need, attdir_need, segment_need, staying, items_asked, directories, live_places}
-use Rattle.czi_machine.specs.Sound.{IsExact, AreItems, AreDistinct, IsTidy}
+use Rattle.czi_machine.specs.Places.{Asked, stays, fresh, directories_asked, asked_layout, edit_asks, undo_asks, stays_or_back, keeps_directory, keeps_attdir, directory_asked, subblock_need, attachment_need, metadata_need, directory_need, attdir_need, segment_need, staying, items_asked, directories, live_places}
+use Rattle.czi_machine.specs.Sound.{IsGapless, AreItems, AreDistinct, IsDisjointState}
 use Rattle.czi_machine.specs.State.{Items, Former, State, held, held_by, items_of, item_places, item_spans, spans_of, not_among}
 use Rattle.czi_machine.proofs.Asking.{IsGood, IsWell, going_back, staying-append, going_back-append, All-staying, spans-append, option_list}
 use Rattle.czi_machine.proofs.Cover.{cover-append}
-use Rattle.czi_machine.proofs.Placing.{IsNext, few_items, live_parts, held_whole_or_apart}
+use Rattle.czi_machine.proofs.Placing.{IsAsked, few_items, live_parts, held_whole_or_apart}
 use Rattle.czi_machine.proofs.Leaving.{among_themselves}
 use Rattle.czi_machine.proofs.Tiled.{All-both, All-map}
 
--- What is known of some of what is live next: those that stay are among some places.
+-- What is known of some of what is live asked_layout: those that stay are among some places.
 record Keeping (asked : List Asked) (places : List Place) (spans : List Span) : Type 0 where
   good : AllByRecursion IsGood asked
   fewer : (p : ℕ) → cover (staying asked) p ≤ cover (spans_of places) p
@@ -102,13 +102,13 @@ stays_parts ps qs spans s =
     let t = All-append _ ps qs s.there in
     (record { good = g.0; there = t.0 }, record { good = g.1; there = t.1 })
 
--- what is live next is so where its items are
-pub is_next : (s : State) (d : Document) (ts as' : List Asked) (m : Option Asked) → IsTidy s
+-- what is live asked_layout is so where its items are
+pub is_next : (s : State) (d : Document) (ts as' : List Asked) (m : Option Asked) → IsDisjointState s
     → AllByRecursion IsGood (ts ++ (as' ++ option_to_list m)) → ((p : ℕ) → cover (staying (ts ++ (as' ++ option_to_list m))) p ≤ 1)
     → AllByRecursion (λ t. list_any (same_span t) (item_spans (items_of s.layout)) ≡ true) (staying (ts ++ (as' ++ option_to_list m)))
     → ((p : ℕ) → cover (going_back (ts ++ (as' ++ option_to_list m))) p ≤ cover (held s) p)
     → AllByRecursion (λ (t : Span). IsWhole t ⊎ ((p : ℕ) → 1 ≤ between t.at (end_of t) p → cover s.layout.deleted p ≡ 0)) (going_back (ts ++ (as' ++ option_to_list m)))
-    → IsNext s (next s d ts as' m)
+    → IsAsked s (asked_layout s d ts as' m)
 is_next s d ts as' m is good once there backs back_whole =
     let l : Layout = s.layout in
     let live = live_parts (λ (p : Place). 0 < p.span.len) l is.some.1 in
@@ -131,7 +131,7 @@ is_next s d ts as' m is good once there backs back_whole =
     }
 
 -- an edit
-pub edit_goes_back : (s : State) (e : DocumentEffect) → going_back (items_asked (edit_next s e)) ≡ []
+pub edit_goes_back : (s : State) (e : DocumentEffect) → going_back (items_asked (edit_asks s e)) ≡ []
 edit_goes_back s e =
     let l : Layout = s.layout in
     let T : List Asked = changed (mapped (λ x. fresh (subblock_need x)) e.subblocks) (map stays l.subblocks) in
@@ -140,7 +140,7 @@ edit_goes_back s e =
     going_back-append T (A ++ M) ∙ ((λ i. no_back subblock_need e.subblocks l.subblocks i ++ going_back-append A M i)
     ∙ (λ i. no_back attachment_need e.attachments l.attachments i ++ no_set_back metadata_need e.metadata l.metadata i))
 
-pub edit_is_next : (s : State) (e : DocumentEffect) → IsTidy s → IsNext s (edit_next s e)
+pub edit_is_next : (s : State) (e : DocumentEffect) → IsDisjointState s → IsAsked s (edit_asks s e)
 edit_is_next s e is =
     let l : Layout = s.layout in
     let items : List Place = item_places (items_of l) in
@@ -186,12 +186,12 @@ held_first s f formers p is =
     ∙ (ap (λ l. cover l p) (spans-append (not_among (item_spans (items_of s.layout)) (item_places f.items)) (held_by f.items formers))
     ∙ cover-append (spans_of (not_among (item_spans (items_of s.layout)) (item_places f.items))) (spans_of (held_by f.items formers)) p)
 
-pub undo_goes_back : (s : State) (f : Former) → AreDistinct (item_places f.items) → going_back (items_asked (undo_next s f)) ≡ spans_of (not_among (item_spans (items_of s.layout)) (item_places f.items))
+pub undo_goes_back : (s : State) (f : Former) → AreDistinct (item_places f.items) → going_back (items_asked (undo_asks s f)) ≡ spans_of (not_among (item_spans (items_of s.layout)) (item_places f.items))
 undo_goes_back s f are =
     let present : List Span = item_spans (items_of s.layout) in
     ap going_back (asked_items present f.items) ∙ (on_places present (item_places f.items) are.some).3
 
-pub undo_is_next : (s : State) (f : Former) (formers : List Former) → IsTidy s → s.formers ≡ f ∷ formers → IsNext s (undo_next s f)
+pub undo_is_next : (s : State) (f : Former) (formers : List Former) → IsDisjointState s → s.formers ≡ f ∷ formers → IsAsked s (undo_asks s f)
 undo_is_next s f formers is newest =
     let present : List Span = item_spans (items_of s.layout) in
     let are : AreDistinct (item_places f.items) = (subst (AllByRecursion (λ (g : Former). AreDistinct (item_places g.items))) newest is.formers).0 in
@@ -217,7 +217,7 @@ unfolding AllWell
 both_well [] a b = tt
 both_well (x ∷ xs) a b = ((b.0, a.0), both_well xs a.1 b.1)
 
-well_live : (l : Layout) → IsExact l → AllWell (live_places l)
+well_live : (l : Layout) → IsGapless l → AllWell (live_places l)
 well_live l is = both_well (live_places l) is.walked.1 (All-map (λ (p : Place). p.span) IsWhole (live_places l) is.live_whole.1)
 
 well_changed : {X : Type 0} (need : X → ℕ) (c : List (Act X)) (places : List Place) → AllWell places → AllByRecursion IsWell (changed (mapped (λ x. fresh (need x)) c) (map stays places))
@@ -250,11 +250,11 @@ well_there present (q ∷ ps) well = elim (cases_Bool (list_any (same_span q.spa
   | inr e ↦ rw e (well.0, well_there present ps well.1)
 ]
 
-well_parts : (l : Layout) → IsExact l → AllWell (item_places (items_of l)) × AllWell (directories l)
+well_parts : (l : Layout) → IsGapless l → AllWell (item_places (items_of l)) × AllWell (directories l)
 unfolding AllWell
 well_parts l is = live_parts (λ (p : Place). IsWhole p.span × (p.walked ≡ true)) l (well_live l is)
 
-pub directories_well : (s : State) (d : Document) (ts as' : List Asked) (m : Option Asked) → IsExact s.layout → AllByRecursion IsWell (directories_asked (next s d ts as' m))
+pub directories_well : (s : State) (d : Document) (ts as' : List Asked) (m : Option Asked) → IsGapless s.layout → AllByRecursion IsWell (directories_asked (asked_layout s d ts as' m))
 unfolding AllWell
 directories_well s d ts as' m is =
     let l : Layout = s.layout in
@@ -262,7 +262,7 @@ directories_well s d ts as' m is =
     All-both IsWell (option_to_list (directory_asked l.directory (keeps_directory s d ts) (directory_need d.subblocks))) (option_to_list (directory_asked l.attdir (keeps_attdir s d as') (attdir_need d.attachments)))
     (well_directory l.directory (keeps_directory s d ts) (directory_need d.subblocks) both.0) (well_directory l.attdir (keeps_attdir s d as') (attdir_need d.attachments) both.1)
 
-pub edit_well : (s : State) (e : DocumentEffect) → IsExact s.layout → AllByRecursion IsWell (items_asked (edit_next s e))
+pub edit_well : (s : State) (e : DocumentEffect) → IsGapless s.layout → AllByRecursion IsWell (items_asked (edit_asks s e))
 unfolding AllWell
 edit_well s e is =
     let l : Layout = s.layout in
@@ -275,19 +275,19 @@ edit_well s e is =
     All-both IsWell T (A ++ M) (well_changed subblock_need e.subblocks l.subblocks one.0)
     (All-both IsWell A M (well_changed attachment_need e.attachments l.attachments two.0) (well_set metadata_need e.metadata l.metadata two.1))
 
-pub undo_well : (s : State) (f : Former) → AreItems f.items → AllByRecursion IsWell (items_asked (undo_next s f))
+pub undo_well : (s : State) (f : Former) → AreItems f.items → AllByRecursion IsWell (items_asked (undo_asks s f))
 undo_well s f are =
     let present : List Span = item_spans (items_of s.layout) in
     subst (AllByRecursion IsWell) (sym (asked_items present f.items))
     (well_there present (item_places f.items) (both_well (item_places f.items) are.walked (All-map (λ (p : Place). p.span) IsWhole (item_places f.items) are.whole)))
 
-pub edit_directories_well : (s : State) (e : DocumentEffect) → IsExact s.layout → AllByRecursion IsWell (directories_asked (edit_next s e))
+pub edit_directories_well : (s : State) (e : DocumentEffect) → IsGapless s.layout → AllByRecursion IsWell (directories_asked (edit_asks s e))
 edit_directories_well s e is =
     let l : Layout = s.layout in
     directories_well s (after e s.document) (changed (mapped (λ x. fresh (subblock_need x)) e.subblocks) (map stays l.subblocks)) (changed (mapped (λ x. fresh (attachment_need x)) e.attachments) (map stays l.attachments))
     (set (mapped_setting (λ x. fresh (metadata_need x)) e.metadata) (option_map stays l.metadata)) is
 
-pub undo_directories_well : (s : State) (f : Former) → IsExact s.layout → AllByRecursion IsWell (directories_asked (undo_next s f))
+pub undo_directories_well : (s : State) (f : Former) → IsGapless s.layout → AllByRecursion IsWell (directories_asked (undo_asks s f))
 undo_directories_well s f is =
     let present : List Span = item_spans (items_of s.layout) in
     directories_well s f.document (map (stays_or_back present) f.items.subblocks) (map (stays_or_back present) f.items.attachments) (option_map (stays_or_back present) f.items.metadata) is

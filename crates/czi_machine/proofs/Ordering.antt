@@ -14,11 +14,11 @@ use Rattle.czi_machine.specs.Fits.{IsAt, SetsAt, FitsEffect}
 use Rattle.czi_machine.specs.Grouped.{FitAll, fit_all, put_in, set_in}
 use Rattle.czi_machine.specs.InOrder.{directory_needs, tiles_stay, attachments_stay, needs_of, StaysOrNew, directory_spans, LiesInOrder}
 use Rattle.czi_machine.specs.Machine.{after_effect, as_refusal, edited}
-use Rattle.czi_machine.specs.Places.{stays, fresh, Asked, Next, Fitted, fit_each, fit_option, placed, relaid, edit_next, directory_asked, new_place, space_of, subblock_need, attachment_need, metadata_need, directory_need, attdir_need}
+use Rattle.czi_machine.specs.Places.{stays, fresh, Asked, AskedLayout, Fitted, fit_each, fit_option, placed, relaid, edit_asks, directory_asked, new_place, space_of, subblock_need, attachment_need, metadata_need, directory_need, attdir_need}
 use Rattle.czi_machine.specs.Planned.{Brings, Sets}
 use Rattle.czi_machine.specs.State.{State}
 use Rattle.czi_machine.specs.Table.{fit_brought}
-use Rattle.czi_machine.specs.Turn.{Turn}
+use Rattle.czi_machine.specs.LiveChange.{LiveChange}
 use Rattle.czi_machine.proofs.TableSubblocks.{placed_change, each_brought, option_stays}
 use Rattle.czi_machine.proofs.Restated.{ok_is}
 use Rattle.std.proofs.lemmas.List.{length-map}
@@ -157,7 +157,7 @@ length-directory false old need same b = absurd b
 length-directory false old need (to None) b = absurd b
 length-directory stay old need c b = refl
 
-pub fits_in_order : (s : State) (e : DocumentEffect) (t : Turn) (r : FitAll) → fit_all (space_of s) (needs_of s e) ≡ Ok r → LiesInOrder s e t r.spans → FitsEffect s e t
+pub fits_in_order : (s : State) (e : DocumentEffect) (t : LiveChange) (r : FitAll) → fit_all (space_of s) (needs_of s e) ≡ Ok r → LiesInOrder s e t r.spans → FitsEffect s e t
 fits_in_order s e t r all lies =
     let l : Layout = s.layout in
     let T : List Span = map (λ (x : Tile). extent x.segment) (brought t.tiles) in
@@ -196,10 +196,10 @@ fits_in_order s e t r all lies =
       meta_fit = m.fits;
       meta_at = subst (SetsAt (λ (m : MetaItem). m.segment) t.metadata l.metadata) (sym m.is) (set_at l t.metadata e.metadata l.metadata p3.first.spans lies.metadata s3.0);
       directory = d.fitted;
-      directory_fit = subst (λ z. fit_option l z (edit_next s e).directory ≡ Ok d.fitted) (sym m.left) d.fits;
+      directory_fit = subst (λ z. fit_option l z (edit_asks s e).directory ≡ Ok d.fitted) (sym m.left) d.fits;
       directory_at = subst (SetsAt (λ (d : Directory). d.segment) t.directory l.directory) (sym d.is) (directory_at l (tiles_stay s e) t.directory l.directory p4.first.spans lies.directory s4.0);
       attdir = x.fitted;
-      attdir_fit = subst (λ z. fit_option l z (edit_next s e).attdir ≡ Ok x.fitted) (sym d.left) x.fits;
+      attdir_fit = subst (λ z. fit_option l z (edit_asks s e).attdir ≡ Ok x.fitted) (sym d.left) x.fits;
       attdir_at = subst (SetsAt (λ (d : Directory). d.segment) t.attdir l.attdir) (sym x.is) (directory_at l (attachments_stay s e) t.attdir l.attdir p4.rest.spans lies.attdir s4.1);
     }
 
@@ -255,7 +255,7 @@ directory_full : (l : Layout) (space : Space) (stay : Bool) (need : ℕ) (old : 
 directory_full l space true need old f e = cc (e)
 directory_full l space false need old f e = rw (one_need_full space need f e) refl
 
-placed_full : (s : State) (e : DocumentEffect) (f : Full) → fit_all (space_of s) (needs_of s e) ≡ Err f → placed s.layout (space_of s) (edit_next s e) ≡ Err f
+placed_full : (s : State) (e : DocumentEffect) (f : Full) → fit_all (space_of s) (needs_of s e) ≡ Err f → placed s.layout (space_of s) (edit_asks s e) ≡ Err f
 unfolding placed_change
 placed_full s e f all =
     let l : Layout = s.layout in
@@ -264,7 +264,7 @@ placed_full s e f all =
     let nm : List ℕ = map metadata_need (option_to_list (set_new e.metadata)) in
     let nd : List ℕ = directory_needs (tiles_stay s e) (directory_need (after e s.document).subblocks) in
     let nx : List ℕ = directory_needs (attachments_stay s e) (attdir_need (after e s.document).attachments) in
-    let n : Next = edit_next s e in
+    let n : AskedLayout = edit_asks s e in
     err_parts (space_of s) nt (na ++ (nm ++ (nd ++ nx))) f all
     (λ none. let t : fit_each l (space_of s) n.subblocks ≡ Err f = each_brought l (space_of s) subblock_need e.subblocks l.subblocks ∙ ap (placed_change l l.subblocks) (brought_full l (space_of s) subblock_need e.subblocks f none) in rw t refl)
     (λ r1 is1 more1.
@@ -289,4 +289,4 @@ placed_full s e f all =
     rw (t, a, g3.fits, d, x) refl))))
 
 pub full_in_order : (s : State) (e : DocumentEffect) (f : Full) → fit_all (space_of s) (needs_of s e) ≡ Err f → after_effect s e ≡ Err (as_refusal f)
-full_in_order s e f all = ap (λ r. with_fault as_refusal (r >>= λ p. Ok (relaid s.layout (edit_next s e) p)) >>= λ l. Ok (edited s 1 (after e s.document) l)) (placed_full s e f all)
+full_in_order s e f all = ap (λ r. with_fault as_refusal (r >>= λ p. Ok (relaid s.layout (edit_asks s e) p)) >>= λ l. Ok (edited s 1 (after e s.document) l)) (placed_full s e f all)

@@ -10,7 +10,7 @@ use Rattle.czi_format.specs.Partial.{natural, none_or}
 use Rattle.czi_format.specs.Entry.{Entry, dim, dims, entry, entry_len, entry_bytes, IsEntry, A1, a1, a1_len, a1_bytes, IsA1}
 use Rattle.czi_format.specs.FirstFault.{one_after_another}
 use Rattle.czi_format.proofs.Local.{same_part, i32_same, i64_same, IsItsOwn, directory_own, attdir_own, part_of_part, i32_of_part}
-use Rattle.czi_format.proofs.Readings.{bind_some, given_some, both_true, natural_some, Stands, IsSound, segment_stands, stands_segment, is_sound}
+use Rattle.czi_format.proofs.Readings.{bind_some, given_some, both_true, natural_some, Stands, IsSoundSegment, segment_stands, stands_segment, is_sound}
 use Rattle.czi_format.proofs.Rules.{on_ok, ok_or_ok}
 use Rattle.czi_format.proofs.Written.{entry_again, length-entry_bytes, drop_front, again_4}
 use Rattle.czi_format.proofs.Heads.{a1_again, length-a1_bytes}
@@ -366,7 +366,7 @@ unfolding in_segment IsItsOwn
 found_at image id position read was its found =
     let s = bind_some (sound_segment image id position) (λ s. read s (data_of image s)) was found in
     let own : was.segment ≡ s.0 = its s.0 (data_of image s.0) was s.2 in
-    let sound : IsSound image id position s.0 = is_sound image id position s.0 s.1 in
+    let sound : IsSoundSegment image id position s.0 = is_sound image id position s.0 s.1 in
     subst (λ (z : Segment). FoundAt image id read (record was { segment = z })) (sym own) (record { stood = sound.here; own = bytes_same s.0.id id (both_true _ _ sound.test).0 })
 
 pub found_in : (z : ℤ) (f : Option Directory) (was : Directory) → none_or z f ≡ Some (Some was) → f ≡ Some was

@@ -13,7 +13,7 @@ use Rattle.czi_format.proofs.Readings.{IsHeader, header_is_read, read_header_is}
 use Rattle.czi_format.specs.Partial.{none_or}
 use Rattle.czi_format.specs.Same.{SameExtent}
 use Rattle.czi_machine.specs.Change.{Setting, same, to, changed, kept, mapped, set, set_kept, mapped_setting}
-use Rattle.czi_machine.specs.Turn.{Turn, turned, pointer, kept_segments, effect_of}
+use Rattle.czi_machine.specs.LiveChange.{LiveChange, changed_live, pointer, kept_segments, effect_of}
 use Rattle.czi_machine.specs.Writes.{PutsPointer, AreOnce, WritesIn, ReadsDirectory, ReadsAttdir, ReadsMetadata, ReadsNew}
 use Rattle.czi_machine.specs.Written.{Piece, Wrote}
 use Rattle.czi_machine.specs.Cover.{between, cover}
@@ -69,8 +69,8 @@ pointer_read segment image other pieces place (to (Some x)) old wrote fits fits'
 ]
 
 -- the file header afterwards
-pub header_turned : (image other : List ℕ) (live : Live) (t : Turn) (marks : List Span) (pieces : List Piece) → Reaches image live → WritesIn live.header t marks pieces → AreOnce live t marks
-    → Wrote image other pieces → length image ≤ length other → file_header other ≡ Some (turned t live).header
+pub header_turned : (image other : List ℕ) (live : Live) (t : LiveChange) (marks : List Span) (pieces : List Piece) → Reaches image live → WritesIn live.header t marks pieces → AreOnce live t marks
+    → Wrote image other pieces → length image ≤ length other → file_header other ≡ Some (changed_live t live).header
 header_turned image other live t marks pieces reaches around once wrote longer =
     let at : HeaderAt image live.header.segment = header_at_front image live reaches in
     let f = (header_fronts image live.header reaches.header).0 in
@@ -179,14 +179,14 @@ few_attachments_turned other (to None) old items new was reads = omega arith
 few_attachments_turned other (to (Some d)) old items new was reads = reads.1
 
 -- What is kept of each kind is as before.
-pub record Kept (image other : List ℕ) (live : Live) (t : Turn) : Type 0 where
+pub record Kept (image other : List ℕ) (live : Live) (t : LiveChange) : Type 0 where
   pub directory : AllByRecursion (SameExtent image other) (option_to_list (option_map (λ (d : Directory). d.segment) (set_kept t.directory live.directory)))
   pub tiles : AllByRecursion (λ (x : Tile). SameExtent image other x.segment) (kept t.tiles live.tiles)
   pub attdir : AllByRecursion (SameExtent image other) (option_to_list (option_map (λ (d : Directory). d.segment) (set_kept t.attdir live.attdir)))
   pub attachments : AllByRecursion (λ (x : AttItem). SameExtent image other x.segment) (kept t.attachments live.attachments)
   pub metadata : AllByRecursion (SameExtent image other) (option_to_list (option_map (λ (m : MetaItem). m.segment) (set_kept t.metadata live.metadata)))
 
-pub kept_parts : (image other : List ℕ) (live : Live) (t : Turn) → AllByRecursion (SameExtent image other) (kept_segments t live) → Kept image other live t
+pub kept_parts : (image other : List ℕ) (live : Live) (t : LiveChange) → AllByRecursion (SameExtent image other) (kept_segments t live) → Kept image other live t
 kept_parts image other live t all =
     let P : Segment → Type 0 = SameExtent image other in
     let one = All-append P (option_to_list (option_map (λ (d : Directory). d.segment) (set_kept t.directory live.directory))) _ all in
@@ -208,11 +208,11 @@ metadata_turned image other (to None) old kept = refl
 metadata_turned image other (to (Some m)) old kept = refl
 
 -- The pointers of the image afterwards reach what the command makes of what they reached.
-pub reaches_turned : (image other : List ℕ) (live : Live) (t : Turn) (marks : List Span) (pieces : List Piece) → Reaches image live → WritesIn live.header t marks pieces → AreOnce live t marks
-    → Wrote image other pieces → length image ≤ length other → ReadsNew other t live → Reaches other (turned t live)
+pub reaches_turned : (image other : List ℕ) (live : Live) (t : LiveChange) (marks : List Span) (pieces : List Piece) → Reaches image live → WritesIn live.header t marks pieces → AreOnce live t marks
+    → Wrote image other pieces → length image ≤ length other → ReadsNew other t live → Reaches other (changed_live t live)
 reaches_turned image other live t marks pieces reaches around once wrote longer new =
     let k : Kept image other live t = kept_parts image other live t (all_kept image other live t marks pieces reaches around once wrote longer) in
-    let live' : Live = turned t live in
+    let live' : Live = changed_live t live in
     let tiles : AllByRecursion (λ (x : Tile). subblock_at other x.entry ≡ Some x) (kept t.tiles live.tiles) =
     on_all (λ (x : Tile). subblock_at image x.entry ≡ Some x) (λ (x : Tile). SameExtent image other x.segment) (λ (x : Tile). subblock_at other x.entry ≡ Some x)
     (λ x f s. found_same image other subblock_id x.entry.position (tile x.entry) (λ (z : Tile). z.segment) x (tile_own x.entry) s f) (kept t.tiles live.tiles)
@@ -239,8 +239,8 @@ reaches_turned image other live t marks pieces reaches around once wrote longer 
       disjoint = few_disjoint (map extent (segments live')) (extents_some (segments live')) (λ p. omega (arith, once.once p));
     }
 
-pub document_turned : (image other : List ℕ) (live : Live) (t : Turn) (marks : List Span) (pieces : List Piece) → Reaches image live → WritesIn live.header t marks pieces → AreOnce live t marks
-    → Wrote image other pieces → length image ≤ length other → document other (turned t live) ≡ after (effect_of other t) (document image live)
+pub document_turned : (image other : List ℕ) (live : Live) (t : LiveChange) (marks : List Span) (pieces : List Piece) → Reaches image live → WritesIn live.header t marks pieces → AreOnce live t marks
+    → Wrote image other pieces → length image ≤ length other → document other (changed_live t live) ≡ after (effect_of other t) (document image live)
 document_turned image other live t marks pieces reaches around once wrote longer =
     let k : Kept image other live t = kept_parts image other live t (all_kept image other live t marks pieces reaches around once wrote longer) in
     let subblocks : map (subblock_of other) (changed t.tiles live.tiles) ≡ changed (mapped (subblock_of other) t.tiles) (map (subblock_of image) live.tiles) =
@@ -256,8 +256,8 @@ document_turned image other live t marks pieces reaches around once wrote longer
       metadata = metadata_turned image other t.metadata live.metadata k.metadata i;
     }
 
-pub any_image : (image other : List ℕ) (live : Live) (t : Turn) (marks : List Span) (pieces : List Piece) → Reaches image live → WritesIn live.header t marks pieces → AreOnce live t marks
+pub any_image : (image other : List ℕ) (live : Live) (t : LiveChange) (marks : List Span) (pieces : List Piece) → Reaches image live → WritesIn live.header t marks pieces → AreOnce live t marks
     → Wrote image other pieces → length image ≤ length other → ReadsNew other t live
-    → Reaches other (turned t live) × (document other (turned t live) ≡ after (effect_of other t) (document image live))
+    → Reaches other (changed_live t live) × (document other (changed_live t live) ≡ after (effect_of other t) (document image live))
 any_image image other live t marks pieces reaches around once wrote longer new =
     (reaches_turned image other live t marks pieces reaches around once wrote longer new, document_turned image other live t marks pieces reaches around once wrote longer)

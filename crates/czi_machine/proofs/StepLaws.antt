@@ -12,17 +12,17 @@ use Rattle.czi_format.proofs.Local.{All-append}
 use Rattle.czi_format.proofs.Rules.{on_ok}
 use Rattle.czi_machine.specs.Change.{Act, keep, omit, bring, brought, mapped, Setting, to, set, set_new, mapped_setting}
 use Rattle.czi_machine.specs.Edit.{DocumentEffect, after}
-use Rattle.czi_machine.specs.Fits.{IsAt, SetsAt, TurnsAt, FitsEffect}
+use Rattle.czi_machine.specs.Fits.{IsAt, SetsAt, ChangesAt, FitsEffect}
 use Rattle.czi_machine.specs.Formers.{Lain, tile_place, attachment_place, metadata_place, Return, return_effect, return_items, brought_back, LiesHeld, BringBack, present, undoing}
 use Rattle.czi_machine.specs.Kept.{LiesWith, undo_turn, FitsUndo, PlansUndo, UndoIs}
 use Rattle.czi_machine.specs.Laws.{Lies, Leads}
 use Rattle.czi_machine.specs.Machine.{after_effect, after_undo, after_undo_of, as_refusal, restored, kept_formers}
-use Rattle.czi_machine.specs.Places.{Next, Placed, Fitted, fit_one, fit_each, fit_option, placed, laid, relaid, space_of, undo_next, stays_or_back}
+use Rattle.czi_machine.specs.Places.{AskedLayout, Placed, Fitted, fit_one, fit_each, fit_option, placed, laid, relaid, space_of, undo_asks, stays_or_back}
 use Rattle.czi_machine.specs.Planned.{Brings, Sets, BringsTile, BringsAttachment, BringsMetadata, Plans}
 use Rattle.czi_machine.specs.Puts.{PutsHeader}
-use Rattle.czi_machine.specs.Sound.{IsSound, IsTidy}
+use Rattle.czi_machine.specs.Sound.{IsGaplessState, IsDisjointState}
 use Rattle.czi_machine.specs.State.{Items, Former, State, held, held_by, items_of, item_places, item_spans, spans_of, not_among}
-use Rattle.czi_machine.specs.Turn.{Turn, turned, SpansAt}
+use Rattle.czi_machine.specs.LiveChange.{LiveChange, changed_live, SpansAt}
 use Rattle.czi_machine.specs.Written.{Piece, Wrote}
 use Rattle.czi_machine.specs.GroupKept.{LiesAsPlaced}
 use Rattle.czi_machine.specs.Grouped.{put_in, Groups}
@@ -79,20 +79,20 @@ all_refl f (w ∷ ws) = (refl, all_refl f ws)
 -- An undo, and where it put things.
 record Unmade (s s' : State) (f : Former) (formers : List Former) : Type 0 where
   at : Placed
-  there : placed s.layout (space_of s) (undo_next s f) ≡ Ok at
-  whole : restored s f formers (relaid s.layout (undo_next s f) at) ≡ s'
+  there : placed s.layout (space_of s) (undo_asks s f) ≡ Ok at
+  whole : restored s f formers (relaid s.layout (undo_asks s f) at) ≡ s'
 
 undo_makes : (s s' : State) (f : Former) (formers : List Former) → s.formers ≡ f ∷ formers → after_undo s ≡ Ok s' → Unmade s s' f formers
 undo_makes s s' f formers newest e =
-    on_ok (with_fault as_refusal (laid s (undo_next s f))) _ s' (sym (ap (after_undo_of s) newest) ∙ e) λ l l_is done.
-    on_ok (placed s.layout (space_of s) (undo_next s f)) _ l (no_fault as_refusal (laid s (undo_next s f)) l l_is) λ pl pl_is laid_is.
-    record { at = pl; there = pl_is; whole = ap (restored s f formers) (ok_is (relaid s.layout (undo_next s f) pl) l laid_is) ∙ ok_is _ s' done }
+    on_ok (with_fault as_refusal (laid s (undo_asks s f))) _ s' (sym (ap (after_undo_of s) newest) ∙ e) λ l l_is done.
+    on_ok (placed s.layout (space_of s) (undo_asks s f)) _ l (no_fault as_refusal (laid s (undo_asks s f)) l l_is) λ pl pl_is laid_is.
+    record { at = pl; there = pl_is; whole = ap (restored s f formers) (ok_is (relaid s.layout (undo_asks s f) pl) l laid_is) ∙ ok_is _ s' done }
 
 undo_turns : (s s' : State) (f : Former) (formers : List Former) (r : Return) (d x : Setting Directory) → s.formers ≡ f ∷ formers → f.items ≡ return_items r (items_of s.layout) → after_undo s ≡ Ok s' → FitsUndo s f d x
-    → TurnsAt s.layout s'.layout (undo_turn r d x)
+    → ChangesAt s.layout s'.layout (undo_turn r d x)
 undo_turns s s' f formers r d x newest items_are goes fits =
     let l : Layout = s.layout in
-    let n : Next = undo_next s f in
+    let n : AskedLayout = undo_asks s f in
     let now : List Span = item_spans (items_of l) in
     let made : Unmade s s' f formers = undo_makes s s' f formers newest goes in
     let placed_items : made.at.items ≡ return_items r (items_of l) = undo_places s f made.at made.there ∙ items_are in
@@ -124,7 +124,7 @@ undo_turns s s' f formers r d x newest items_are goes fits =
     of_metadata old new c e = e
 
 -- all of what comes back lies in the image
-back_inside : (image : List ℕ) (s : State) (f : Former) (formers : List Former) (r : Return) → IsTidy s → s.formers ≡ f ∷ formers → f.items ≡ return_items r (items_of s.layout) → LiesHeld image (items_of s.layout) r
+back_inside : (image : List ℕ) (s : State) (f : Former) (formers : List Former) (r : Return) → IsDisjointState s → s.formers ≡ f ∷ formers → f.items ≡ return_items r (items_of s.layout) → LiesHeld image (items_of s.layout) r
     → HasBack (λ (h : Span). end_of h ≤ s.layout.length) r
 back_inside image s f formers r is newest items_are lies =
     let P : Span → Type 0 = λ h. end_of h ≤ s.layout.length in
@@ -148,7 +148,7 @@ newest_back image s f formers r returns newest back = let b : BringBack image (p
 pub undo_is : (image : List ℕ) (s s' : State) (live : Live) (f : Former) (formers : List Former) (r : Return) (returns : List Return) (d x : Setting Directory) (pieces : List Piece)
     → LiesWith image live s (r ∷ returns) → s.formers ≡ f ∷ formers → after_undo s ≡ Ok s' → FitsUndo s f d x → PlansUndo s.layout s'.layout live r d x pieces → UndoIs image s s' live r (undo_turn r d x) pieces
 undo_is image s s' live f formers r returns d x pieces w newest goes fits plan =
-    let t : Turn = undo_turn r d x in
+    let t : LiveChange = undo_turn r d x in
     let b : Newest image s f r = newest_back image s f formers r returns newest w.back in
     let made : Unmade s s' f formers = undo_makes s s' f formers newest goes in
     let items_are : f.items ≡ return_items r (items_of s.layout) = ap (λ (z : Former). z.items) b.is in
@@ -180,13 +180,13 @@ undo_is image s s' live f formers r returns d x pieces w newest goes fits plan =
 edited_document : (s s' : State) (e : DocumentEffect) → after_effect s e ≡ Ok s' → s'.document ≡ after e s.document
 edited_document s s' e goes = ap (λ (z : State). z.document) (sym (edit_makes s s' e goes).whole)
 
-pub edits_keep : (image other : List ℕ) (s s' : State) (live : Live) (e : DocumentEffect) (t : Turn) (pieces : List Piece) (returns : List Return) → LiesWith image live s returns
+pub edits_keep : (image other : List ℕ) (s s' : State) (live : Live) (e : DocumentEffect) (t : LiveChange) (pieces : List Piece) (returns : List Return) → LiesWith image live s returns
     → after_effect s e ≡ Ok s' → FitsEffect s e t → Plans image s.layout s'.layout live e t pieces → Wrote image other pieces → length other ≡ s'.layout.length
-    → LiesWith other (turned t live) s' (undoing 1 t live s.layout ∷ take (kept_formers 1 s) returns)
+    → LiesWith other (changed_live t live) s' (undoing 1 t live s.layout ∷ take (kept_formers 1 s) returns)
 edits_keep image other s s' live e t pieces returns w goes fits plan wrote long =
     let leads : Leads s s' = inl (e, goes) in
-    let is' : IsTidy s' = stays_tidy s s' w.tidy leads in
-    let at : SpansAt s'.layout (turned t live) = spans_follow s.layout s'.layout live t w.lies.extents (fits_turn s s' e t fits goes) in
+    let is' : IsDisjointState s' = stays_tidy s s' w.tidy leads in
+    let at : SpansAt s'.layout (changed_live t live) = spans_follow s.layout s'.layout live t w.lies.extents (fits_turn s s' e t fits goes) in
     let read = plan_writes image other s s' live e t pieces w.lies is' (led s s' w.tidy leads).longer at plan wrote long in
     record {
       lies = any_commanded image other s s' live t pieces w.lies w.tidy leads at (edited_document s s' e goes ∙ ap (λ z. after z s.document) (sym read.0)) read.1;
@@ -194,22 +194,22 @@ edits_keep image other s s' live e t pieces returns w goes fits plan wrote long 
       back = edits_bring_back image other s s' live t pieces returns w.lies w.tidy (ap (after_effect s) read.0 ∙ goes) at read.1 w.back;
     }
 
-pub edits_steady : (image other : List ℕ) (s s' : State) (live : Live) (e : DocumentEffect) (t : Turn) (pieces : List Piece) → Lies image live s → IsSound s
+pub edits_steady : (image other : List ℕ) (s s' : State) (live : Live) (e : DocumentEffect) (t : LiveChange) (pieces : List Piece) → Lies image live s → IsGaplessState s
     → after_effect s e ≡ Ok s' → FitsEffect s e t → Plans image s.layout s'.layout live e t pieces → Wrote image other pieces → length other ≡ s'.layout.length
-    → Lies other (turned t live) s' × IsSound s'
+    → Lies other (changed_live t live) s' × IsGaplessState s'
 edits_steady image other s s' live e t pieces lies is goes fits plan wrote long =
     let leads : Leads s s' = inl (e, goes) in
-    let at : SpansAt s'.layout (turned t live) = spans_follow s.layout s'.layout live t (lies_loosely image live s lies).extents (fits_turn s s' e t fits goes) in
+    let at : SpansAt s'.layout (changed_live t live) = spans_follow s.layout s'.layout live t (lies_loosely image live s lies).extents (fits_turn s s' e t fits goes) in
     ((planned image other s s' live e t pieces lies is leads at (edited_document s s' e goes) plan wrote long).1, stays_sound s s' is leads)
 
 -- undos
 pub undos_keep : (image other : List ℕ) (s s' : State) (live : Live) (f : Former) (formers : List Former) (r : Return) (returns : List Return) (d x : Setting Directory) (pieces : List Piece)
     → LiesWith image live s (r ∷ returns) → s.formers ≡ f ∷ formers → after_undo s ≡ Ok s' → FitsUndo s f d x → PlansUndo s.layout s'.layout live r d x pieces
-    → Wrote image other pieces → length other ≡ s'.layout.length → LiesWith other (turned (undo_turn r d x) live) s' returns
+    → Wrote image other pieces → length other ≡ s'.layout.length → LiesWith other (changed_live (undo_turn r d x) live) s' returns
 undos_keep image other s s' live f formers r returns d x pieces w newest goes fits plan wrote long =
-    let t : Turn = undo_turn r d x in
+    let t : LiveChange = undo_turn r d x in
     let leads : Leads s s' = inr (inl goes) in
-    let is' : IsTidy s' = stays_tidy s s' w.tidy leads in
+    let is' : IsDisjointState s' = stays_tidy s s' w.tidy leads in
     let u : UndoIs image s s' live r t pieces = undo_is image s s' live f formers r returns d x pieces w newest goes fits plan in
     let read = plan_writes image other s s' live (return_effect image r) t pieces w.lies is' (led s s' w.tidy leads).longer u.spans u.plans wrote long in
     record {
@@ -219,17 +219,17 @@ undos_keep image other s s' live f formers r returns d x pieces w newest goes fi
     }
 
 pub undos_steady : (image other : List ℕ) (s s' : State) (live : Live) (f : Former) (formers : List Former) (r : Return) (returns : List Return) (d x : Setting Directory) (pieces : List Piece)
-    → Lies image live s → IsSound s → BringBack image (present s) (r ∷ returns) s.formers → s.formers ≡ f ∷ formers → after_undo s ≡ Ok s' → FitsUndo s f d x
-    → PlansUndo s.layout s'.layout live r d x pieces → Wrote image other pieces → length other ≡ s'.layout.length → Lies other (turned (undo_turn r d x) live) s' × IsSound s'
+    → Lies image live s → IsGaplessState s → BringBack image (present s) (r ∷ returns) s.formers → s.formers ≡ f ∷ formers → after_undo s ≡ Ok s' → FitsUndo s f d x
+    → PlansUndo s.layout s'.layout live r d x pieces → Wrote image other pieces → length other ≡ s'.layout.length → Lies other (changed_live (undo_turn r d x) live) s' × IsGaplessState s'
 undos_steady image other s s' live f formers r returns d x pieces lies is back newest goes fits plan wrote long =
-    let t : Turn = undo_turn r d x in
+    let t : LiveChange = undo_turn r d x in
     let w : LiesWith image live s (r ∷ returns) = record { lies = lies_loosely image live s lies; tidy = sound_tidy s is; back = back } in
     let u : UndoIs image s s' live r t pieces = undo_is image s s' live f formers r returns d x pieces w newest goes fits plan in
     ((planned image other s s' live (return_effect image r) t pieces lies is (inr (inl goes)) u.spans u.document u.plans wrote long).1, stays_sound s s' is (inr (inl goes)))
 
 -- Groups, from their plans, with what brings the former documents back.
 
-group_turns : (s s' : State) (g : Groups s s') (t : Turn) → LiesAsPlaced s s' g t → TurnsAt s.layout s'.layout t
+group_turns : (s s' : State) (g : Groups s s') (t : LiveChange) → LiesAsPlaced s s' g t → ChangesAt s.layout s'.layout t
 group_turns s s' g t at =
     let l : Layout = s.layout in
     let l' : Layout = s'.layout in
@@ -254,13 +254,13 @@ group_turns s s' g t at =
 group_document : (s s' : State) (g : Groups s s') → s'.document ≡ after g.effect s.document
 group_document s s' g = ap (λ (z : State). z.document) (sym g.goes)
 
-pub groups_keep : (image other : List ℕ) (s s' : State) (live : Live) (g : Groups s s') (t : Turn) (pieces : List Piece) (returns : List Return) → LiesWith image live s returns
+pub groups_keep : (image other : List ℕ) (s s' : State) (live : Live) (g : Groups s s') (t : LiveChange) (pieces : List Piece) (returns : List Return) → LiesWith image live s returns
     → LiesAsPlaced s s' g t → Plans image s.layout s'.layout live g.effect t pieces → Wrote image other pieces → length other ≡ s'.layout.length
-    → LiesWith other (turned t live) s' (undoing g.edits t live s.layout ∷ take (kept_formers g.edits s) returns)
+    → LiesWith other (changed_live t live) s' (undoing g.edits t live s.layout ∷ take (kept_formers g.edits s) returns)
 groups_keep image other s s' live g t pieces returns w at plan wrote long =
     let leads : Leads s s' = inr (inr g) in
-    let is' : IsTidy s' = stays_tidy s s' w.tidy leads in
-    let spans : SpansAt s'.layout (turned t live) = spans_follow s.layout s'.layout live t w.lies.extents (group_turns s s' g t at) in
+    let is' : IsDisjointState s' = stays_tidy s s' w.tidy leads in
+    let spans : SpansAt s'.layout (changed_live t live) = spans_follow s.layout s'.layout live t w.lies.extents (group_turns s s' g t at) in
     let read = plan_writes image other s s' live g.effect t pieces w.lies is' (led s s' w.tidy leads).longer spans plan wrote long in
     record {
       lies = any_commanded image other s s' live t pieces w.lies w.tidy leads spans (group_document s s' g ∙ ap (λ z. after z s.document) (sym read.0)) read.1;
@@ -268,10 +268,10 @@ groups_keep image other s s' live g t pieces returns w at plan wrote long =
       back = groups_bring_back image other s s' live t pieces returns w.lies w.tidy g (sym read.0) spans read.1 w.back;
     }
 
-pub groups_steady : (image other : List ℕ) (s s' : State) (live : Live) (g : Groups s s') (t : Turn) (pieces : List Piece) → Lies image live s → IsSound s
+pub groups_steady : (image other : List ℕ) (s s' : State) (live : Live) (g : Groups s s') (t : LiveChange) (pieces : List Piece) → Lies image live s → IsGaplessState s
     → LiesAsPlaced s s' g t → Plans image s.layout s'.layout live g.effect t pieces → Wrote image other pieces → length other ≡ s'.layout.length
-    → Lies other (turned t live) s' × IsSound s'
+    → Lies other (changed_live t live) s' × IsGaplessState s'
 groups_steady image other s s' live g t pieces lies is at plan wrote long =
     let leads : Leads s s' = inr (inr g) in
-    let spans : SpansAt s'.layout (turned t live) = spans_follow s.layout s'.layout live t (lies_loosely image live s lies).extents (group_turns s s' g t at) in
+    let spans : SpansAt s'.layout (changed_live t live) = spans_follow s.layout s'.layout live t (lies_loosely image live s lies).extents (group_turns s s' g t at) in
     ((planned image other s s' live g.effect t pieces lies is leads spans (group_document s s' g) plan wrote long).1, stays_sound s s' is leads)

@@ -11,8 +11,8 @@ use Rattle.czi_format.specs.Space.{Space, Full, Fit, fit, same_span}
 use Rattle.czi_format.proofs.Local.{All-append}
 use Rattle.czi_machine.specs.Change.{Act, keep, omit, bring, changed, brought, kept, omitted, mapped, Setting, same, set, set_kept, set_omitted, mapped_setting, to}
 use Rattle.czi_machine.specs.Edit.{in_subblocks, after, in_attachments, to_metadata}
-use Rattle.czi_machine.specs.Places.{Asked, stays, fresh, Placed, Fitted, fit_each, fit_option, edit_next, staying, stays_at, all_stay, directory_asked, directories, leaving, placed, laid, freeing}
-use Rattle.czi_machine.specs.Places.{relaid, space_of, subblock_need, directory_need, attdir_need, keeps_directory, keeps_attdir, in_place, a1_sizes, back, next, Next, entry_sizes, new_place, attachment_need, metadata_need, undo_next, stays_or_back}
+use Rattle.czi_machine.specs.Places.{Asked, stays, fresh, Placed, Fitted, fit_each, fit_option, edit_asks, staying, stays_at, all_stay, directory_asked, directories, leaving, placed, laid, freeing}
+use Rattle.czi_machine.specs.Places.{relaid, space_of, subblock_need, directory_need, attdir_need, keeps_directory, keeps_attdir, in_place, a1_sizes, back, asked_layout, AskedLayout, entry_sizes, new_place, attachment_need, metadata_need, undo_asks, stays_or_back}
 use Rattle.czi_machine.specs.State.{State, items_of, item_places, spans_of, not_among, Items, item_spans}
 use Rattle.czi_machine.specs.Table.{changes, fit_brought, subblocks_laid, AreApart, directory_laid, directory_left, attachments_laid, metadata_laid, subblocks_undone, attachments_undone, metadata_undone, AreNew}
 use Rattle.czi_machine.proofs.Asking.{spans-append}
@@ -93,7 +93,7 @@ change_moves g c ps moves e = elim (cases_Bool (all_stay ps (changed (mapped g c
   | inl t ↦ absurd (omega (arith, all_stay_length ps (changed (mapped g c) (map stays ps)) t, shorter g c ps (nothing_new g c ps ps moves t) e))
 ]
 
--- what is next, by a change of each part
+-- what is asked_layout, by a change of each part
 unfoldable pub asked_by : {S A M : Type 0} (f : S → Asked) (g : A → Asked) (h : M → Asked) → List (Act S) → List (Act A) → Setting M → Layout → List Asked
 asked_by f g h cs ca cm l = changed (mapped f cs) (map stays l.subblocks) ++ (changed (mapped g ca) (map stays l.attachments) ++ option_to_list (set (mapped_setting h cm) (option_map stays l.metadata)))
 
@@ -174,7 +174,7 @@ subblocks_placed s d b f gone = directory_laid s.layout f.space s.layout.directo
 
 pub subblocks_go : {X Y : Type 0} (s : State) (d : Document) (g : X → Asked) (c : List (Act X)) (r : Result Y Full) (fitted : Y → Fitted (List Place)) → AreApart s.layout → Moves g → ((p : Place) (x : X) → stays_at p (g x) ≡ false)
     → changes c (length s.layout.subblocks) ≡ true → fit_each s.layout (space_of s) (changed (mapped g c) (map stays s.layout.subblocks)) ≡ (r >>= λ y. Ok (fitted y))
-    → laid s (next s d (changed (mapped g c) (map stays s.layout.subblocks)) (map stays s.layout.attachments) (option_map stays s.layout.metadata))
+    → laid s (asked_layout s d (changed (mapped g c) (map stays s.layout.subblocks)) (map stays s.layout.attachments) (option_map stays s.layout.metadata))
     ≡ (r >>= λ y. subblocks_placed s d (in_place s.layout.directory 128 s.layout.subblocks (changed (mapped g c) (map stays s.layout.subblocks)) (entry_sizes s.document.subblocks) (entry_sizes d.subblocks)) (fitted y) (omitted c s.layout.subblocks))
 unfolding asked_by
 subblocks_go {Y = Y} s d g c r fitted apart moves never ch fits =
@@ -182,7 +182,7 @@ subblocks_go {Y = Y} s d g c r fitted apart moves never ch fits =
     let T : List Asked = changed (mapped g c) (map stays l.subblocks) in
     let b : Bool = in_place l.directory 128 l.subblocks T (entry_sizes s.document.subblocks) (entry_sizes d.subblocks) in
     let other : Bool = in_place l.attdir 256 l.attachments (map stays l.attachments) (a1_sizes s.document.attachments) (a1_sizes d.attachments) in
-    let n : Next = next s d T (map stays l.attachments) (option_map stays l.metadata) in
+    let n : AskedLayout = asked_layout s d T (map stays l.attachments) (option_map stays l.metadata) in
     let moved : all_stay l.subblocks T ≡ false = change_moves g c l.subblocks never ch in
     let none : List (Act Place) = [] in
     let kept : Setting Place = same in
@@ -207,7 +207,7 @@ subblocks_go {Y = Y} s d g c r fitted apart moves never ch fits =
     (bind_same (D y) _ _ (λ dir. rw (all_stay_same l.attachments, option_stays l dir.space l.attdir) refl)))) in
     ap (λ z. z >>= λ p. Ok (relaid l n p)) goes ∙ (bind_assoc r _ _ ∙ bind_same r _ _ (λ y. bind_assoc (D y) _ _ ∙ bind_same (D y) _ _ (λ dir i. Ok (freeing l (its (fitted y) dir (append-nil dir.used i)) (leaves i)))))
 
-pub subblocks_row : (s : State) (c : List (Act Subblock)) → AreApart s.layout → changes c (length s.layout.subblocks) ≡ true → laid s (edit_next s (in_subblocks c)) ≡ subblocks_laid s c
+pub subblocks_row : (s : State) (c : List (Act Subblock)) → AreApart s.layout → changes c (length s.layout.subblocks) ≡ true → laid s (edit_asks s (in_subblocks c)) ≡ subblocks_laid s c
 unfolding placed_change
 subblocks_row s c apart ch =
     subblocks_go s (after (in_subblocks c) s.document) (λ x. fresh (subblock_need x)) c (fit_brought s.layout (space_of s) subblock_need c)
@@ -227,7 +227,7 @@ attachments_placed s d b f gone = directory_laid s.layout f.space s.layout.attdi
 
 pub attachments_go : {X Y : Type 0} (s : State) (d : Document) (g : X → Asked) (c : List (Act X)) (r : Result Y Full) (fitted : Y → Fitted (List Place)) → AreApart s.layout → Moves g → ((p : Place) (x : X) → stays_at p (g x) ≡ false)
     → changes c (length s.layout.attachments) ≡ true → fit_each s.layout (space_of s) (changed (mapped g c) (map stays s.layout.attachments)) ≡ (r >>= λ y. Ok (fitted y))
-    → laid s (next s d (map stays s.layout.subblocks) (changed (mapped g c) (map stays s.layout.attachments)) (option_map stays s.layout.metadata))
+    → laid s (asked_layout s d (map stays s.layout.subblocks) (changed (mapped g c) (map stays s.layout.attachments)) (option_map stays s.layout.metadata))
     ≡ (r >>= λ y. attachments_placed s d (in_place s.layout.attdir 256 s.layout.attachments (changed (mapped g c) (map stays s.layout.attachments)) (a1_sizes s.document.attachments) (a1_sizes d.attachments)) (fitted y) (omitted c s.layout.attachments))
 unfolding asked_by
 attachments_go {Y = Y} s d g c r fitted apart moves never ch fits =
@@ -235,7 +235,7 @@ attachments_go {Y = Y} s d g c r fitted apart moves never ch fits =
     let A : List Asked = changed (mapped g c) (map stays l.attachments) in
     let b : Bool = in_place l.attdir 256 l.attachments A (a1_sizes s.document.attachments) (a1_sizes d.attachments) in
     let other : Bool = in_place l.directory 128 l.subblocks (map stays l.subblocks) (entry_sizes s.document.subblocks) (entry_sizes d.subblocks) in
-    let n : Next = next s d (map stays l.subblocks) A (option_map stays l.metadata) in
+    let n : AskedLayout = asked_layout s d (map stays l.subblocks) A (option_map stays l.metadata) in
     let moved : all_stay l.attachments A ≡ false = change_moves g c l.attachments never ch in
     let none : List (Act Place) = [] in
     let kept : Setting Place = same in
@@ -260,13 +260,13 @@ attachments_go {Y = Y} s d g c r fitted apart moves never ch fits =
     rw (option_stays l (fitted y).space l.metadata, all_stay_same l.subblocks, option_stays l (fitted y).space l.directory, asked (fitted y).space) refl)) in
     ap (λ z. z >>= λ p. Ok (relaid l n p)) goes ∙ (bind_assoc r _ _ ∙ bind_same r _ _ (λ y. bind_assoc (D y) _ _ ∙ bind_same (D y) _ _ (λ dir i. Ok (freeing l (its (fitted y) dir) (leaves i)))))
 
-pub attachments_row : (s : State) (c : List (Act Attachment)) → AreApart s.layout → changes c (length s.layout.attachments) ≡ true → laid s (edit_next s (in_attachments c)) ≡ attachments_laid s c
+pub attachments_row : (s : State) (c : List (Act Attachment)) → AreApart s.layout → changes c (length s.layout.attachments) ≡ true → laid s (edit_asks s (in_attachments c)) ≡ attachments_laid s c
 unfolding placed_change
 attachments_row s c apart ch =
     attachments_go s (after (in_attachments c) s.document) (λ x. fresh (attachment_need x)) c (fit_brought s.layout (space_of s) attachment_need c)
     (λ f. record { places = changed f.places s.layout.attachments; back = []; used = f.used; space = f.space }) apart (new_moves attachment_need) (new_never attachment_need) ch (each_brought s.layout (space_of s) attachment_need c s.layout.attachments)
 
-metadata_leaves : (s : State) (m : Metadata) → AreApart s.layout → leaving s.layout (edit_next s (to_metadata m)) ≡ option_to_list s.layout.metadata
+metadata_leaves : (s : State) (m : Metadata) → AreApart s.layout → leaving s.layout (edit_asks s (to_metadata m)) ≡ option_to_list s.layout.metadata
 unfolding asked_by
 metadata_leaves s m apart =
     let l : Layout = s.layout in
@@ -279,13 +279,13 @@ metadata_leaves s m apart =
     ∙ ((λ i. option_to_list l.metadata ++ (option_to_list (if (all_stay_same l.subblocks i || of_tiles) then None else l.directory) ++ option_to_list (if (all_stay_same l.attachments i || of_attachments) then None else l.attdir)))
     ∙ append-nil (option_to_list l.metadata))
 
-pub metadata_row : (s : State) (m : Metadata) → AreApart s.layout → laid s (edit_next s (to_metadata m)) ≡ metadata_laid s m
+pub metadata_row : (s : State) (m : Metadata) → AreApart s.layout → laid s (edit_asks s (to_metadata m)) ≡ metadata_laid s m
 metadata_row s m apart = on_item (fit (space_of s) (metadata_need m)) refl
   where
-    on_item : (r : Result Fit Full) → fit (space_of s) (metadata_need m) ≡ r → laid s (edit_next s (to_metadata m)) ≡ metadata_laid s m
+    on_item : (r : Result Fit Full) → fit (space_of s) (metadata_need m) ≡ r → laid s (edit_asks s (to_metadata m)) ≡ metadata_laid s m
     on_item (Err z) e =
-        let goes : placed s.layout (space_of s) (edit_next s (to_metadata m)) ≡ Err z = rw (each_stays s.layout (space_of s) s.layout.subblocks, each_stays s.layout (space_of s) s.layout.attachments, e) in
-        ap (λ r. r >>= λ p. Ok (relaid s.layout (edit_next s (to_metadata m)) p)) goes ∙ sym (rw e)
+        let goes : placed s.layout (space_of s) (edit_asks s (to_metadata m)) ≡ Err z = rw (each_stays s.layout (space_of s) s.layout.subblocks, each_stays s.layout (space_of s) s.layout.attachments, e) in
+        ap (λ r. r >>= λ p. Ok (relaid s.layout (edit_asks s (to_metadata m)) p)) goes ∙ sym (rw e)
     on_item (Ok item) e =
         let its : Placed = record {
           directory = s.layout.directory;
@@ -294,7 +294,7 @@ metadata_row s m apart = on_item (fit (space_of s) (metadata_need m)) refl
           used = item.span ∷ [];
           length = item.space.length;
         } in
-        let goes : placed s.layout (space_of s) (edit_next s (to_metadata m)) ≡ Ok its =
+        let goes : placed s.layout (space_of s) (edit_asks s (to_metadata m)) ≡ Ok its =
         rw (
           each_stays s.layout (space_of s) s.layout.subblocks,
           each_stays s.layout (space_of s) s.layout.attachments,
@@ -304,7 +304,7 @@ metadata_row s m apart = on_item (fit (space_of s) (metadata_need m)) refl
           all_stay_same s.layout.attachments,
           option_stays s.layout item.space s.layout.attdir,
         ) in
-        ap (λ r. r >>= λ p. Ok (relaid s.layout (edit_next s (to_metadata m)) p)) goes
+        ap (λ r. r >>= λ p. Ok (relaid s.layout (edit_asks s (to_metadata m)) p)) goes
         ∙ (ap (λ g. Ok (freeing s.layout its g)) (metadata_leaves s m apart) ∙ sym (rw e))
 
 -- The machine keeps to the table of commands: undos.
@@ -346,7 +346,7 @@ each_back l space (keep ∷ c) (p ∷ ps) = rw (each_back l space c ps)
 each_back l space (omit ∷ c) [] = each_back l space c []
 each_back l space (omit ∷ c) (p ∷ ps) = each_back l space c ps
 
--- what is next, after an undo of a change of the subblocks
+-- what is asked_layout, after an undo of a change of the subblocks
 abbrev pub with_subblocks : Layout → List (Act Place) → Items
 with_subblocks l c = record (items_of l) { subblocks = changed c l.subblocks }
 
@@ -365,28 +365,28 @@ present_parts l =
     (one.0, two.0, two.1)
 
 subblocks_next : (s : State) (d : Document) (c : List (Act Place)) → AreNew s.layout (brought c)
-    → undo_next s (record { document = d; items = with_subblocks s.layout c; edits = 1 }) ≡ next s d (changed (mapped back c) (map stays s.layout.subblocks)) (map stays s.layout.attachments) (option_map stays s.layout.metadata)
+    → undo_asks s (record { document = d; items = with_subblocks s.layout c; edits = 1 }) ≡ asked_layout s d (changed (mapped back c) (map stays s.layout.subblocks)) (map stays s.layout.attachments) (option_map stays s.layout.metadata)
 subblocks_next s d c new =
     let l : Layout = s.layout in
     let present : List Span = item_spans (items_of l) in
     let parts = present_parts l in
-    λ i. next s d (there_changed present c l.subblocks parts.0 new i) (there_stays present l.attachments parts.1 i) (option_there present l.metadata parts.2 i)
+    λ i. asked_layout s d (there_changed present c l.subblocks parts.0 new i) (there_stays present l.attachments parts.1 i) (option_there present l.metadata parts.2 i)
 
 pub subblocks_undone_row : (s : State) (d : Document) (c : List (Act Place)) → AreApart s.layout → changes c (length s.layout.subblocks) ≡ true → AreNew s.layout (brought c)
-    → laid s (undo_next s (record { document = d; items = with_subblocks s.layout c; edits = 1 })) ≡ subblocks_undone s (record { document = d; items = with_subblocks s.layout c; edits = 1 }) c
+    → laid s (undo_asks s (record { document = d; items = with_subblocks s.layout c; edits = 1 })) ≡ subblocks_undone s (record { document = d; items = with_subblocks s.layout c; edits = 1 }) c
 subblocks_undone_row s d c apart ch new = ap (laid s) (subblocks_next s d c new) ∙ subblocks_go s d back c (Ok (space_of s))
     (λ space. record { places = changed c s.layout.subblocks; back = spans_of (brought c); used = []; space = space }) apart back_moves (λ p x. refl) ch (each_back s.layout (space_of s) c s.layout.subblocks)
 
 attachments_next : (s : State) (d : Document) (c : List (Act Place)) → AreNew s.layout (brought c)
-    → undo_next s (record { document = d; items = with_attachments s.layout c; edits = 1 }) ≡ next s d (map stays s.layout.subblocks) (changed (mapped back c) (map stays s.layout.attachments)) (option_map stays s.layout.metadata)
+    → undo_asks s (record { document = d; items = with_attachments s.layout c; edits = 1 }) ≡ asked_layout s d (map stays s.layout.subblocks) (changed (mapped back c) (map stays s.layout.attachments)) (option_map stays s.layout.metadata)
 attachments_next s d c new =
     let l : Layout = s.layout in
     let present : List Span = item_spans (items_of l) in
     let parts = present_parts l in
-    λ i. next s d (there_stays present l.subblocks parts.0 i) (there_changed present c l.attachments parts.1 new i) (option_there present l.metadata parts.2 i)
+    λ i. asked_layout s d (there_stays present l.subblocks parts.0 i) (there_changed present c l.attachments parts.1 new i) (option_there present l.metadata parts.2 i)
 
 pub attachments_undone_row : (s : State) (d : Document) (c : List (Act Place)) → AreApart s.layout → changes c (length s.layout.attachments) ≡ true → AreNew s.layout (brought c)
-    → laid s (undo_next s (record { document = d; items = with_attachments s.layout c; edits = 1 })) ≡ attachments_undone s (record { document = d; items = with_attachments s.layout c; edits = 1 }) c
+    → laid s (undo_asks s (record { document = d; items = with_attachments s.layout c; edits = 1 })) ≡ attachments_undone s (record { document = d; items = with_attachments s.layout c; edits = 1 }) c
 attachments_undone_row s d c apart ch new = ap (laid s) (attachments_next s d c new) ∙ attachments_go s d back c (Ok (space_of s))
     (λ space. record { places = changed c s.layout.attachments; back = spans_of (brought c); used = []; space = space }) apart back_moves (λ p x. refl) ch (each_back s.layout (space_of s) c s.layout.attachments)
 
@@ -403,22 +403,22 @@ goes_back l space None = refl
 goes_back l space (Some p) = refl
 
 pub metadata_undone_row : (s : State) (d : Document) (o : Option Place) → AreApart s.layout → AreNew s.layout (option_to_list o)
-    → laid s (undo_next s (record { document = d; items = with_metadata s.layout o; edits = 1 })) ≡ Ok (metadata_undone s (record { document = d; items = with_metadata s.layout o; edits = 1 }))
+    → laid s (undo_asks s (record { document = d; items = with_metadata s.layout o; edits = 1 })) ≡ Ok (metadata_undone s (record { document = d; items = with_metadata s.layout o; edits = 1 }))
 unfolding asked_by
 metadata_undone_row s d o apart new =
     let l : Layout = s.layout in
     let present : List Span = item_spans (items_of l) in
     let parts = present_parts l in
-    let n : Next = next s d (map stays l.subblocks) (map stays l.attachments) (set (mapped_setting back (to o)) None) in
-    let next_is : undo_next s (record { document = d; items = with_metadata l o; edits = 1 }) ≡ n =
-    λ i. next s d (there_stays present l.subblocks parts.0 i) (there_stays present l.attachments parts.1 i) (option_back present o new i) in
+    let n : AskedLayout = asked_layout s d (map stays l.subblocks) (map stays l.attachments) (set (mapped_setting back (to o)) None) in
+    let next_is : undo_asks s (record { document = d; items = with_metadata l o; edits = 1 }) ≡ n =
+    λ i. asked_layout s d (there_stays present l.subblocks parts.0 i) (there_stays present l.attachments parts.1 i) (option_back present o new i) in
     let none : List (Act Place) = [] in
     let items = items_leave back back back none none (to o) l back_moves back_moves back_moves apart in
     let dirs = directories_leave l (keeps_directory s d (map stays l.subblocks)) (keeps_attdir s d (map stays l.attachments)) (directory_need d.subblocks) (attdir_need d.attachments) apart in
     let of_tiles : Bool = in_place l.directory 128 l.subblocks (map stays l.subblocks) (entry_sizes s.document.subblocks) (entry_sizes d.subblocks) in
     let of_attachments : Bool = in_place l.attdir 256 l.attachments (map stays l.attachments) (a1_sizes s.document.attachments) (a1_sizes d.attachments) in
-    let same_next : next s d (map stays l.subblocks) (map stays l.attachments) (set (mapped_setting back (to o)) (option_map stays l.metadata)) ≡ n =
-    ap (next s d (map stays l.subblocks) (map stays l.attachments)) (sym (set_back o (option_map stays l.metadata))) in
+    let same_next : asked_layout s d (map stays l.subblocks) (map stays l.attachments) (set (mapped_setting back (to o)) (option_map stays l.metadata)) ≡ n =
+    ap (asked_layout s d (map stays l.subblocks) (map stays l.attachments)) (sym (set_back o (option_map stays l.metadata))) in
     let leaves : leaving l n ≡ option_to_list l.metadata =
     sym (ap (leaving l) same_next)
     ∙ ((λ i. items i ++ dirs i)

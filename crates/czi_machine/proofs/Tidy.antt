@@ -6,15 +6,15 @@ use Rattle.std.proofs.lemmas.List.Elements.{filter-append}
 use Rattle.std.proofs.lemmas.List.{map-append}
 use Rattle.czi_format.specs.Document.{Document}
 use Rattle.czi_format.specs.Layout.{Place, Layout}
-use Rattle.czi_format.specs.Span.{Span, end_of}
+use Rattle.czi_format.specs.Span.{Span, end_of, IsWhole, LiesInOne}
 use Rattle.czi_format.specs.Space.{Space, same_span, without}
 use Rattle.czi_format.proofs.Local.{All-append}
 use Rattle.czi_format.proofs.Rules.{on_ok}
-use Rattle.czi_machine.specs.Cover.{between, cover, Chained, IsWhole, LiesInOne}
+use Rattle.czi_machine.specs.Cover.{between, cover, Chained}
 use Rattle.czi_machine.specs.Edit.{DocumentEffect}
 use Rattle.czi_machine.specs.Machine.{edited, restored, kept_formers}
-use Rattle.czi_machine.specs.Places.{Next, Placed, Fitted, fit_one, fit_each, fit_option, stays_or_back, edit_next, undo_next, placed, relaid, leaving, staying, items_asked, directories_asked, directories, live_places, can_be_used, space_of}
-use Rattle.czi_machine.specs.Sound.{all_places, live_spans, dead_held, AreDistinct, IsTidy, IsExact, AreItems, IsSound}
+use Rattle.czi_machine.specs.Places.{AskedLayout, Placed, Fitted, fit_one, fit_each, fit_option, stays_or_back, edit_asks, undo_asks, placed, relaid, leaving, staying, items_asked, directories_asked, directories, live_places, can_be_used, space_of}
+use Rattle.czi_machine.specs.Sound.{all_places, live_spans, dead_held, AreDistinct, IsDisjointState, IsGapless, AreItems, IsGaplessState}
 use Rattle.czi_machine.specs.State.{Items, Former, State, held, held_by, items_of, item_places, item_spans, spans_of, not_among}
 use Rattle.czi_machine.specs.Writes.{dead}
 use Rattle.czi_machine.proofs.Asking.{going_back, spans-append}
@@ -23,20 +23,20 @@ use Rattle.czi_machine.proofs.InOne.{in_deleted_after, freed_in}
 use Rattle.czi_machine.proofs.Keeps.{deleted_after_whole_from, deleted_after_chained_from}
 use Rattle.czi_machine.proofs.Leaving.{among_themselves, among_before, among_behind, cover-split, cover-fewer_of, All-fewer_of, not_fewer}
 use Rattle.czi_machine.proofs.Nexts.{edit_goes_back, edit_is_next, undo_goes_back, undo_is_next, held_first, edit_well, edit_directories_well, undo_well, undo_directories_well}
-use Rattle.czi_machine.proofs.Placing.{IsNext, Placing, placing, covers_own, used_is, used_covered, used_past, used_whole_or_apart, avoids_held, held_covered, held_parts, few_items, live_parts, parts_live, cover-live_places, leaving_staying, leaving_some, freed_whole, without_whole_apart}
+use Rattle.czi_machine.proofs.Placing.{IsAsked, Placing, placing, covers_own, used_is, used_covered, used_past, used_whole_or_apart, avoids_held, held_covered, held_parts, few_items, live_parts, parts_live, cover-live_places, leaving_staying, leaving_some, freed_whole, without_whole_apart}
 use Rattle.czi_machine.proofs.Steady.{on_all}
 use Rattle.czi_machine.proofs.Tiled.{All-both, All-filter, All-map, map-All, All-weaken, between_one}
 use Rattle.czi_machine.proofs.Restated.{ok_is}
 use Rattle.czi_machine.proofs.Exact.{relaid_exact, sound_tidy, tidy_sound, nothing_dead_held}
 
 -- what is freed, and what is dead
-freed_of : Layout → Next → List Span
+freed_of : Layout → AskedLayout → List Span
 freed_of l n = spans_of (filter can_be_used (leaving l n))
 
-dead_of : Layout → Next → List Span
+dead_of : Layout → AskedLayout → List Span
 dead_of l n = spans_of (filter (λ (q : Place). not (can_be_used q)) (leaving l n))
 
-swapped : (s : State) (n : Next) (pl : Placed) (p : ℕ) → IsTidy s → IsNext s n → Placing s n pl
+swapped : (s : State) (n : AskedLayout) (pl : Placed) (p : ℕ) → IsDisjointState s → IsAsked s n → Placing s n pl
     → cover (live_spans (relaid s.layout n pl)) p + (cover (freed_of s.layout n) p + cover (dead_of s.layout n) p) ≡ cover (live_spans s.layout) p + cover pl.used p
 unfolding freed_of dead_of
 swapped s n pl p is nx at = omega (
@@ -57,7 +57,7 @@ used_or_not used D p = elim (cases_lt 0 (cover used p)) [
 ]
 
 -- how often a place is had afterwards, where so many dead spans have it
-relaid_once : (s : State) (n : Next) (pl : Placed) (p dead' : ℕ) → IsTidy s → IsNext s n → Placing s n pl
+relaid_once : (s : State) (n : AskedLayout) (pl : Placed) (p dead' : ℕ) → IsDisjointState s → IsAsked s n → Placing s n pl
     → (cover pl.used p ≡ 0 → dead' ≤ cover (dead_of s.layout n) p + cover (dead_held s) p) → (1 ≤ cover pl.used p → dead' ≤ cover (dead_of s.layout n) p)
     → (cover (live_spans (relaid s.layout n pl)) p + (cover (relaid s.layout n pl).deleted p + dead') ≤ 1)
     × (pl.length ≤ p → cover (live_spans (relaid s.layout n pl)) p + (cover (relaid s.layout n pl).deleted p + dead') ≡ 0)
@@ -86,7 +86,7 @@ relaid_once s n pl p dead' is nx at free busy =
     ]
 
 -- the DELETED extents afterwards
-relaid_deleted : (s : State) (n : Next) (pl : Placed) → IsTidy s → IsNext s n → Placing s n pl → AllByRecursion IsWhole (relaid s.layout n pl).deleted × Chained 0 (relaid s.layout n pl).deleted
+relaid_deleted : (s : State) (n : AskedLayout) (pl : Placed) → IsDisjointState s → IsAsked s n → Placing s n pl → AllByRecursion IsWhole (relaid s.layout n pl).deleted × Chained 0 (relaid s.layout n pl).deleted
 unfolding freed_of
 relaid_deleted s n pl is nx at =
     let D : List Span = s.layout.deleted in
@@ -107,7 +107,7 @@ relaid_deleted s n pl is nx at =
     ] in
     (deleted_after_whole_from pl.used F D left freed, deleted_after_chained_from pl.used F D left freed apart is.rising)
 
-relaid_some : (s : State) (n : Next) (pl : Placed) → IsTidy s → Placing s n pl → AllByRecursion (λ (q : Place). 0 < q.span.len) (all_places (relaid s.layout n pl))
+relaid_some : (s : State) (n : AskedLayout) (pl : Placed) → IsDisjointState s → Placing s n pl → AllByRecursion (λ (q : Place). 0 < q.span.len) (all_places (relaid s.layout n pl))
 relaid_some s n pl is at = (is.some.0, parts_live (λ (q : Place). 0 < q.span.len) (relaid s.layout n pl) at.items_some at.directories_some)
 
 -- fewer formers hold fewer spans
@@ -153,11 +153,11 @@ held_few newer formers n p = omega (
 )
 
 -- the items of a tidy state
-pub tidy_items : (s : State) → IsTidy s → AreDistinct (item_places (items_of s.layout))
+pub tidy_items : (s : State) → IsDisjointState s → AreDistinct (item_places (items_of s.layout))
 tidy_items s is = record { some = (live_parts (λ (q : Place). 0 < q.span.len) s.layout is.some.1).0; once = λ p. omega (arith, few_items s p is) }
 
 -- held spans that what is used avoids lie in one DELETED extent each afterwards
-still_in : (l : Layout) (n : Next) (pl : Placed) (ps : List Place) → AllByRecursion (λ (q : Place). 0 < q.span.len) ps → AllByRecursion (λ (h : Span). LiesInOne h l.deleted) (spans_of ps)
+still_in : (l : Layout) (n : AskedLayout) (pl : Placed) (ps : List Place) → AllByRecursion (λ (q : Place). 0 < q.span.len) ps → AllByRecursion (λ (h : Span). LiesInOne h l.deleted) (spans_of ps)
     → ((p : ℕ) → 1 ≤ cover (spans_of ps) p → cover pl.used p ≡ 0) → AllByRecursion (λ (h : Span). LiesInOne h (relaid l n pl).deleted) (spans_of ps)
 still_in l n pl ps some inside avoids =
     on_all (λ (h : Span). (p : ℕ) → between h.at (end_of h) p ≤ cover (spans_of ps) p) (λ (h : Span). (0 < h.len) × LiesInOne h l.deleted) (λ (h : Span). LiesInOne h (relaid l n pl).deleted)
@@ -169,11 +169,11 @@ parts_cover : (d : Place → Bool) (xs ys : List Place) (p : ℕ) → cover (spa
 parts_cover d xs ys p = ap (λ l. cover (spans_of l) p) (filter-append d xs ys) ∙ (ap (λ l. cover l p) (spans-append (filter d xs) (filter d ys)) ∙ cover-append (spans_of (filter d xs)) (spans_of (filter d ys)) p)
 
 -- after an edit
-pub tidy_edited : (s : State) (m : ℕ) (e : DocumentEffect) (d : Document) (pl : Placed) → IsTidy s → Placing s (edit_next s e) pl → IsTidy (edited s m d (relaid s.layout (edit_next s e) pl))
+pub tidy_edited : (s : State) (m : ℕ) (e : DocumentEffect) (d : Document) (pl : Placed) → IsDisjointState s → Placing s (edit_asks s e) pl → IsDisjointState (edited s m d (relaid s.layout (edit_asks s e) pl))
 unfolding freed_of dead_of
 tidy_edited s m e d pl is at =
-    let n : Next = edit_next s e in
-    let nx : IsNext s n = edit_is_next s e is in
+    let n : AskedLayout = edit_asks s e in
+    let nx : IsAsked s n = edit_is_next s e is in
     let l : Layout = s.layout in
     let l' : Layout = relaid l n pl in
     let items : List Place = item_places (items_of l) in
@@ -260,11 +260,11 @@ option_place l present space (Some q) r e =
     on_ok (fit_one l space (stays_or_back present q)) _ r e λ first one done.
     ap (λ (z : Fitted (Option Place)). z.places) (sym (ok_is _ r done)) ∙ ap Some (one_place l present space q first one)
 
-pub undo_places : (s : State) (f : Former) (pl : Placed) → placed s.layout (space_of s) (undo_next s f) ≡ Ok pl → pl.items ≡ f.items
+pub undo_places : (s : State) (f : Former) (pl : Placed) → placed s.layout (space_of s) (undo_asks s f) ≡ Ok pl → pl.items ≡ f.items
 undo_places s f pl e =
     let l : Layout = s.layout in
     let present : List Span = item_spans (items_of l) in
-    let n : Next = undo_next s f in
+    let n : AskedLayout = undo_asks s f in
     on_ok (fit_each l (space_of s) n.subblocks) _ pl e λ t t_is e1.
     on_ok (fit_each l t.space n.attachments) _ pl e1 λ a a_is e2.
     on_ok (fit_option l a.space n.metadata) _ pl e2 λ m m_is e3.
@@ -276,12 +276,12 @@ undo_places s f pl e =
     ap (λ (z : Placed). z.items) (sym (ok_is _ pl e5)) ∙ (λ i. record { subblocks = ts i; attachments = as' i; metadata = ms i })
 
 -- after an undo
-pub tidy_restored : (s : State) (f : Former) (formers : List Former) (pl : Placed) → IsTidy s → s.formers ≡ f ∷ formers → placed s.layout (space_of s) (undo_next s f) ≡ Ok pl
-    → IsTidy (restored s f formers (relaid s.layout (undo_next s f) pl))
+pub tidy_restored : (s : State) (f : Former) (formers : List Former) (pl : Placed) → IsDisjointState s → s.formers ≡ f ∷ formers → placed s.layout (space_of s) (undo_asks s f) ≡ Ok pl
+    → IsDisjointState (restored s f formers (relaid s.layout (undo_asks s f) pl))
 unfolding freed_of dead_of
 tidy_restored s f formers pl is newest placed_is =
-    let n : Next = undo_next s f in
-    let nx : IsNext s n = undo_is_next s f formers is newest in
+    let n : AskedLayout = undo_asks s f in
+    let nx : IsAsked s n = undo_is_next s f formers is newest in
     let at : Placing s n pl = placing s n pl is nx placed_is in
     let l : Layout = s.layout in
     let l' : Layout = relaid l n pl in
@@ -326,7 +326,7 @@ tidy_restored s f formers pl is newest placed_is =
     }
 
 -- held spans lay below the length
-pub held_edited : (s : State) (m : ℕ) (d : Document) (l : Layout) (p : ℕ) → IsTidy s → s.layout.length ≤ p → cover (held (edited s m d l)) p ≡ 0
+pub held_edited : (s : State) (m : ℕ) (d : Document) (l : Layout) (p : ℕ) → IsDisjointState s → s.layout.length ≤ p → cover (held (edited s m d l)) p ≡ 0
 held_edited s m d l p is behind =
     let items : List Place = item_places (items_of s.layout) in
     let new : List Place = not_among (item_spans (items_of l)) items in
@@ -342,8 +342,8 @@ held_edited s m d l p is behind =
       cover-live_places s.layout p,
     )
 
-pub held_restored : (s : State) (f : Former) (formers : List Former) (pl : Placed) (p : ℕ) → IsTidy s → s.formers ≡ f ∷ formers → placed s.layout (space_of s) (undo_next s f) ≡ Ok pl → s.layout.length ≤ p
-    → cover (held (restored s f formers (relaid s.layout (undo_next s f) pl))) p ≡ 0
+pub held_restored : (s : State) (f : Former) (formers : List Former) (pl : Placed) (p : ℕ) → IsDisjointState s → s.formers ≡ f ∷ formers → placed s.layout (space_of s) (undo_asks s f) ≡ Ok pl → s.layout.length ≤ p
+    → cover (held (restored s f formers (relaid s.layout (undo_asks s f) pl))) p ≡ 0
 held_restored s f formers pl p is newest placed_is behind =
     let same : pl.items ≡ f.items = undo_places s f pl placed_is in
     omega (arith, ap (λ z. cover (spans_of (held_by z formers)) p) same, held_first s f formers p newest, held_covered s p is, is.inside p behind)
@@ -407,7 +407,7 @@ live_cover_of d q l p =
       two D X,
     )
 
-dead_places : (s : State) (n : Next) (pl : Placed) (p : ℕ) → Placing s n pl → cover (dead s.layout (relaid s.layout n pl)) p ≤ cover (dead_of s.layout n) p
+dead_places : (s : State) (n : AskedLayout) (pl : Placed) (p : ℕ) → Placing s n pl → cover (dead s.layout (relaid s.layout n pl)) p ≤ cover (dead_of s.layout n) p
 unfolding dead_of
 dead_places s n pl p at =
     let l : Layout = s.layout in
@@ -429,7 +429,7 @@ dead_places s n pl p at =
     )
 
 -- no place is live afterwards, DELETED and dead
-pub marked_once : (s : State) (n : Next) (pl : Placed) (p : ℕ) → IsTidy s → IsNext s n → Placing s n pl
+pub marked_once : (s : State) (n : AskedLayout) (pl : Placed) (p : ℕ) → IsDisjointState s → IsAsked s n → Placing s n pl
     → cover (live_spans (relaid s.layout n pl)) p + (cover (relaid s.layout n pl).deleted p + cover (dead s.layout (relaid s.layout n pl)) p) ≤ 1
 marked_once s n pl p is nx at =
     let once = relaid_once s n pl p (cover (dead_of s.layout n) p) is nx at (λ k. omega arith) (λ k. omega arith) in
@@ -456,42 +456,42 @@ edited_from s m d l =
     (map-All (λ (q : Place). q.span) (HeldFrom s) new (All-filter _ _ items own))
     (All-weaken _ (HeldFrom s) (λ h own. inr own) (spans_of rest) (within_more (spans_of rest) (λ p. cover (held s) p) (λ p. held_few (items_of s.layout) s.formers (kept_formers m s) p))))
 
-pub restored_from : (s : State) (f : Former) (formers : List Former) (pl : Placed) → IsTidy s → s.formers ≡ f ∷ formers → placed s.layout (space_of s) (undo_next s f) ≡ Ok pl
-    → AllByRecursion (λ (h : Span). (list_any (same_span h) (spans_of (live_places s.layout)) ≡ true) ⊎ ((p : ℕ) → between h.at (end_of h) p ≤ cover (held s) p)) (held (restored s f formers (relaid s.layout (undo_next s f) pl)))
+pub restored_from : (s : State) (f : Former) (formers : List Former) (pl : Placed) → IsDisjointState s → s.formers ≡ f ∷ formers → placed s.layout (space_of s) (undo_asks s f) ≡ Ok pl
+    → AllByRecursion (λ (h : Span). (list_any (same_span h) (spans_of (live_places s.layout)) ≡ true) ⊎ ((p : ℕ) → between h.at (end_of h) p ≤ cover (held s) p)) (held (restored s f formers (relaid s.layout (undo_asks s f) pl)))
 unfolding HeldFrom
 restored_from s f formers pl is newest placed_is =
     let same : pl.items ≡ f.items = undo_places s f pl placed_is in
-    let rest : List Span = held (restored s f formers (relaid s.layout (undo_next s f) pl)) in
+    let rest : List Span = held (restored s f formers (relaid s.layout (undo_asks s f) pl)) in
     All-weaken _ (HeldFrom s) (λ h own. inr own) rest (within_more rest (λ p. cover (held s) p) (λ p. omega (arith, ap (λ z. cover (spans_of (held_by z formers)) p) same, held_first s f formers p newest)))
 
 -- A sound state stays sound: after an edit, and after an undo.
 
 -- the items of a layout that fills the image
-exact_items : (s : State) → IsSound s → AreItems (items_of s.layout)
+exact_items : (s : State) → IsGaplessState s → AreItems (items_of s.layout)
 exact_items s is = record {
   whole = map-All (λ (p : Place). p.span) IsWhole (item_places (items_of s.layout)) (live_parts (λ (p : Place). IsWhole p.span) s.layout (All-map (λ (p : Place). p.span) IsWhole (live_places s.layout) is.layout.live_whole.1)).0;
   once = λ p. omega (arith, few_items s p (sound_tidy s is));
   walked = (live_parts (λ (p : Place). p.walked ≡ true) s.layout is.layout.walked.1).0;
 }
 
-no_dead : (s : State) → IsSound s → (p : ℕ) → cover (dead_held s) p ≡ 0
+no_dead : (s : State) → IsGaplessState s → (p : ℕ) → cover (dead_held s) p ≡ 0
 no_dead s is p = ap (λ z. cover z p) (nothing_dead_held s is.formers)
 
-pub sound_edited : (s : State) (m : ℕ) (e : DocumentEffect) (d : Document) (pl : Placed) → IsSound s → Placing s (edit_next s e) pl → IsSound (edited s m d (relaid s.layout (edit_next s e) pl))
+pub sound_edited : (s : State) (m : ℕ) (e : DocumentEffect) (d : Document) (pl : Placed) → IsGaplessState s → Placing s (edit_asks s e) pl → IsGaplessState (edited s m d (relaid s.layout (edit_asks s e) pl))
 sound_edited s m e d pl is at =
-    let tidy : IsTidy s = sound_tidy s is in
-    let n : Next = edit_next s e in
-    let nx : IsNext s n = edit_is_next s e tidy in
-    let exact : IsExact (relaid s.layout n pl) = relaid_exact s n pl tidy is.layout (no_dead s is) nx (edit_well s e is.layout) (edit_directories_well s e is.layout) at in
+    let tidy : IsDisjointState s = sound_tidy s is in
+    let n : AskedLayout = edit_asks s e in
+    let nx : IsAsked s n = edit_is_next s e tidy in
+    let exact : IsGapless (relaid s.layout n pl) = relaid_exact s n pl tidy is.layout (no_dead s is) nx (edit_well s e is.layout) (edit_directories_well s e is.layout) at in
     tidy_sound (edited s m d (relaid s.layout n pl)) (tidy_edited s m e d pl tidy at) exact (exact_items s is, All-taken (λ (f : Former). AreItems f.items) (kept_formers m s) s.formers is.formers)
 
-pub sound_restored : (s : State) (f : Former) (formers : List Former) (pl : Placed) → IsSound s → s.formers ≡ f ∷ formers → placed s.layout (space_of s) (undo_next s f) ≡ Ok pl
-    → IsSound (restored s f formers (relaid s.layout (undo_next s f) pl))
+pub sound_restored : (s : State) (f : Former) (formers : List Former) (pl : Placed) → IsGaplessState s → s.formers ≡ f ∷ formers → placed s.layout (space_of s) (undo_asks s f) ≡ Ok pl
+    → IsGaplessState (restored s f formers (relaid s.layout (undo_asks s f) pl))
 sound_restored s f formers pl is newest placed_is =
-    let tidy : IsTidy s = sound_tidy s is in
-    let n : Next = undo_next s f in
-    let nx : IsNext s n = undo_is_next s f formers tidy newest in
+    let tidy : IsDisjointState s = sound_tidy s is in
+    let n : AskedLayout = undo_asks s f in
+    let nx : IsAsked s n = undo_is_next s f formers tidy newest in
     let at : Placing s n pl = placing s n pl tidy nx placed_is in
     let all : AllByRecursion (λ (g : Former). AreItems g.items) (f ∷ formers) = subst (AllByRecursion (λ (g : Former). AreItems g.items)) newest is.formers in
-    let exact : IsExact (relaid s.layout n pl) = relaid_exact s n pl tidy is.layout (no_dead s is) nx (undo_well s f all.0) (undo_directories_well s f is.layout) at in
+    let exact : IsGapless (relaid s.layout n pl) = relaid_exact s n pl tidy is.layout (no_dead s is) nx (undo_well s f all.0) (undo_directories_well s f is.layout) at in
     tidy_sound (restored s f formers (relaid s.layout n pl)) (tidy_restored s f formers pl tidy newest placed_is) exact all.1

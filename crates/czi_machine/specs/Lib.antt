@@ -13,7 +13,7 @@ pub mod Holes
 pub mod Written
 pub mod Patch
 pub mod Headline
-pub mod Turn
+pub mod LiveChange
 pub mod Writes
 pub mod Puts
 pub mod Runs

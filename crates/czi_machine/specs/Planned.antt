@@ -9,14 +9,15 @@ use Rattle.czi_format.specs.Segment.{data_of, directory_id, subblock_id, attdir_
 use Rattle.czi_machine.specs.Change.{Act, keep, omit, bring, Setting, same, to}
 use Rattle.czi_format.specs.Data.{directory_data, attdir_data, subblock_data, attachment_data, metadata_data}
 use Rattle.czi_machine.specs.Edit.{DocumentEffect, after}
-use Rattle.czi_machine.specs.Laws.{Lies, LiesLoosely, Leads}
+use Rattle.czi_machine.specs.Laws.{Lies, LiesInImage, Leads}
 use Rattle.czi_machine.specs.Patch.{PatchesDirectory, PatchesAttdir}
 use Rattle.czi_machine.specs.Puts.{PutsSegment, PutsHeader, IsSubblock, IsAttachment, IsMetadata}
-use Rattle.czi_machine.specs.Sound.{IsTidy, IsSound}
+use Rattle.czi_machine.specs.Sound.{IsDisjointState, IsGaplessState}
 use Rattle.czi_machine.specs.State.{State}
-use Rattle.czi_machine.specs.Turn.{Turn, turned, effect_of, SpansAt}
+use Rattle.czi_machine.specs.LiveChange.{LiveChange, changed_live, effect_of, SpansAt}
 use Rattle.czi_machine.specs.Writes.{WritesAround}
 use Rattle.czi_machine.specs.Written.{Piece, Wrote}
+use Rattle.czi_format.specs.declared.numbers.TheConstants.{DIRECTORY_FRONT, ATTDIR_FRONT, A1_LEN, MOST_SUBBLOCKS, MOST_ATTACHMENTS}
 
 -- one change brings items, and the other their contents
 abbrev pub Brings : {X Y : Type 0} → (X → Y → Type 0) → List (Act X) → List (Act Y) → Type 0
@@ -102,9 +103,9 @@ BringsMetadata image pieces x m = WritesMetadata pieces x m ⊎ FindsMetadata im
 pub record WritesDirectory (pieces : List Piece) (d : Directory) (es : List Entry) : Type 0 where
   pub id : d.segment.id ≡ directory_id
   pub used : d.segment.used ≡ length (directory_data es 0)
-  pub room : 128 ≤ d.segment.allocated
+  pub room : DIRECTORY_FRONT ≤ d.segment.allocated
   pub count : d.count ≡ length es
-  pub few : length es ≤ 2 ^ 20
+  pub few : length es ≤ MOST_SUBBLOCKS
   pub entries : AllByRecursion IsEntry es
   pub padding : ℕ
   pub puts : PutsSegment pieces d.segment (directory_data es padding)
@@ -112,9 +113,9 @@ pub record WritesDirectory (pieces : List Piece) (d : Directory) (es : List Entr
 pub record WritesAttdir (pieces : List Piece) (d : Directory) (es : List A1) : Type 0 where
   pub id : d.segment.id ≡ attdir_id
   pub used : d.segment.used ≡ length (attdir_data es 0)
-  pub room : 256 + 128 * length es ≤ d.segment.allocated
+  pub room : ATTDIR_FRONT + A1_LEN * length es ≤ d.segment.allocated
   pub count : d.count ≡ length es
-  pub few : length es ≤ 2 ^ 12
+  pub few : length es ≤ MOST_ATTACHMENTS
   pub entries : AllByRecursion IsA1 es
   pub padding : ℕ
   pub puts : PutsSegment pieces d.segment (attdir_data es padding)
@@ -132,10 +133,10 @@ ListsAttachments pieces (to (Some d)) was old new = WritesAttdir pieces d (map (
 
 -- The plan of what becomes of a document, and of what is live, between two layouts. Of the image it names the bytes of what
 -- goes back alone.
-pub record Plans (image : List ℕ) (l l' : Layout) (live : Live) (e : DocumentEffect) (t : Turn) (pieces : List Piece) : Type 0 where
-  pub directory : ListsTiles pieces t.directory live.directory live.tiles (turned t live).tiles
+pub record Plans (image : List ℕ) (l l' : Layout) (live : Live) (e : DocumentEffect) (t : LiveChange) (pieces : List Piece) : Type 0 where
+  pub directory : ListsTiles pieces t.directory live.directory live.tiles (changed_live t live).tiles
   pub tiles : Brings (BringsTile image pieces) t.tiles e.subblocks
-  pub attdir : ListsAttachments pieces t.attdir live.attdir live.attachments (turned t live).attachments
+  pub attdir : ListsAttachments pieces t.attdir live.attdir live.attachments (changed_live t live).attachments
   pub attachments : Brings (BringsAttachment image pieces) t.attachments e.attachments
   pub metadata : Sets (BringsMetadata image pieces) t.metadata e.metadata
   pub around : WritesAround live.header t l l' pieces
@@ -144,12 +145,12 @@ pub record Plans (image : List ℕ) (l l' : Layout) (live : Live) (e : DocumentE
 -- After a command's plan was written, the image shows the document of the state to which the command leads, has that state's
 -- layout, and is steady.
 abbrev pub Planned : Type 0
-Planned = (image other : List ℕ) (s s' : State) (live : Live) (e : DocumentEffect) (t : Turn) (pieces : List Piece) → Lies image live s → IsSound s → Leads s s'
-    → SpansAt s'.layout (turned t live) → s'.document ≡ after e s.document → Plans image s.layout s'.layout live e t pieces
-    → Wrote image other pieces → length other ≡ s'.layout.length → (effect_of other t ≡ e) × Lies other (turned t live) s'
+Planned = (image other : List ℕ) (s s' : State) (live : Live) (e : DocumentEffect) (t : LiveChange) (pieces : List Piece) → Lies image live s → IsGaplessState s → Leads s s'
+    → SpansAt s'.layout (changed_live t live) → s'.document ≡ after e s.document → Plans image s.layout s'.layout live e t pieces
+    → Wrote image other pieces → length other ≡ s'.layout.length → (effect_of other t ≡ e) × Lies other (changed_live t live) s'
 
 -- the same of any image
 abbrev pub PlannedAnywhere : Type 0
-PlannedAnywhere = (image other : List ℕ) (s s' : State) (live : Live) (e : DocumentEffect) (t : Turn) (pieces : List Piece) → LiesLoosely image live s → IsTidy s → Leads s s'
-    → SpansAt s'.layout (turned t live) → s'.document ≡ after e s.document → Plans image s.layout s'.layout live e t pieces
-    → Wrote image other pieces → length other ≡ s'.layout.length → (effect_of other t ≡ e) × LiesLoosely other (turned t live) s'
+PlannedAnywhere = (image other : List ℕ) (s s' : State) (live : Live) (e : DocumentEffect) (t : LiveChange) (pieces : List Piece) → LiesInImage image live s → IsDisjointState s → Leads s s'
+    → SpansAt s'.layout (changed_live t live) → s'.document ≡ after e s.document → Plans image s.layout s'.layout live e t pieces
+    → Wrote image other pieces → length other ≡ s'.layout.length → (effect_of other t ≡ e) × LiesInImage other (changed_live t live) s'

@@ -98,6 +98,10 @@ closing_stands all rest own i j o p =
       p.2,
     )
 
+-- the same, both on the disk
+abbrev pub both_rest : Devices → Devices
+both_rest all = record { image = at_rest all.image.seen; journal = at_rest all.journal.seen; said = all.said }
+
 module _ {D : Type 0} (rig : Ghosts D) where
   pub opens_from : (old new : D) (P : Instant) (result : Result Opened OpenError) → FromSomeMoment rig old new P → OpensFrom rig old new P result
   opens_from old new P (Ok opened) f = f
@@ -110,14 +114,13 @@ module _ {D : Type 0} (rig : Ghosts D) where
   opens_from old new P (Err JournalDevice) f = inr f
   opens_from old new P (Err Memory) f = f
 
-  -- both files were synced, and then opened
-  pub from_synced : (old mid new : D) (all : Devices) → OnlyNow rig → devices (rig.state old) ≡ Some all → AddsNothing rig old mid → (rig.state old).moment ≤ (rig.state mid).moment
-      → devices (rig.state mid) ≡ Some (record { image = at_rest all.image.seen; journal = at_rest all.journal.seen; said = all.said })
-      → Throughout rig mid new (Stays all) → FromSomeMoment rig old new (Stays all)
-  from_synced old mid new all only is adds later synced opened = record {
+  -- both files were synced, and from then on what a crash leaves has P
+  pub from_synced : (old mid new : D) (all : Devices) (P : Instant) → OnlyNow rig → devices (rig.state old) ≡ Some all → AddsNothing rig old mid → (rig.state old).moment ≤ (rig.state mid).moment
+      → devices (rig.state mid) ≡ Some (both_rest all)
+      → ((image journal said : List ℕ) → LeavesNow (both_rest all) image journal said → P image journal said) → Throughout rig mid new P → FromSomeMoment rig old new P
+  from_synced old mid new all P only is adds later synced here opened = record {
     then = mid;
     before = record { later = later; each = λ t i j o le left. inl (adds (is_honest (rig.state old) all is) t i j o le left) };
     after = opened;
-    always = always rig (record { image = at_rest all.image.seen; journal = at_rest all.journal.seen; said = all.said }) only synced opened
-        (rest_stays (record { image = at_rest all.image.seen; journal = at_rest all.journal.seen; said = all.said }) refl refl);
+    always = always rig (both_rest all) only synced opened here;
   }

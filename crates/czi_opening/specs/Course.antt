@@ -9,13 +9,13 @@ use Rattle.czi_opening.specs.declared.error.OpenError.{OpenError}
 use Rattle.czi_opening.specs.declared.error.OpenError.TheVariants.{JournalVersion, BadJournal, ImageShort, ForeignJournal, Refused, ImageDevice, JournalDevice, Memory}
 
 -- A pair of files stands for the bytes that an earlier pair stood for. Where that stood for none, it is that pair.
-pub record StandsAs (image journal now_image now_journal : List ℕ) : Type 0 where
+pub record StandsForTheSame (image journal now_image now_journal : List ℕ) : Type 0 where
   pub same : (bytes : List ℕ) → Recovered image journal bytes → Recovered now_image now_journal bytes
   pub none : ((bytes : List ℕ) → Recovered image journal bytes → ⊥) → (now_image ≡ image) × (now_journal ≡ journal)
 
 -- so does what a crash leaves, and nothing more was said
 abbrev pub Stays : Devices → Instant
-Stays all image journal said = StandsAs all.image.seen all.journal.seen image journal × (said ≡ all.said)
+Stays all image journal said = StandsForTheSame all.image.seen all.journal.seen image journal × (said ≡ all.said)
 
 -- The same of an opening: only where a device failed that moment may not have come.
 abbrev pub OpensFrom : {D : Type 0} → Ghosts D → D → D → Instant → Result Opened OpenError → Type 0

@@ -8,6 +8,7 @@ use Rattle.czi_links.specs.Record.{Record}
 use Rattle.czi_links.specs.Reading.{Holds, OfVersion, BadAt}
 use Rattle.czi_journal.specs.Journals.{slot_of}
 use Rattle.czi_vault.specs.Recovered.{Recovered}
+use Rattle.czi_format.specs.declared.numbers.TheConstants.{FILE_GUID}
 
 -- they stand for bytes that show this document, with no update pending
 pub record Opens (image journal : List ℕ) (d : Document) : Type 0 where
@@ -38,7 +39,7 @@ pub record IsOfAnother (image journal record_guid image_guid : List ℕ) : Type 
   pub holds : slot_of journal ≡ Holds entry
   pub long : entry.committed ≤ length image
   pub record_is : record_guid ≡ entry.guid
-  pub image_is : image_guid ≡ take 16 (drop 64 image)
+  pub image_is : image_guid ≡ take 16 (drop FILE_GUID image)
   pub differ : image_guid ≡ record_guid → ⊥
 
 -- the bytes that they stand for are refused by the first rule of reading that fails

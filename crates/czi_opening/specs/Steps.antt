@@ -10,6 +10,7 @@ use Rattle.czi_opening.specs.declared.error.ImageRefusal.TheVariants.{NotCzi, Mu
 use Rattle.czi_opening.specs.declared.error.OpenError.{OpenError}
 use Rattle.czi_opening.specs.declared.error.OpenError.TheVariants.{JournalVersion, BadJournal, ImageShort, ForeignJournal, Refused, ImageDevice, JournalDevice, Memory}
 use Rattle.czi_opening.specs.Answers.{refusal_of}
+use Rattle.czi_format.specs.declared.numbers.TheConstants.{FILE_GUID}
 
 -- the error that tells a fault of reading the image
 abbrev pub image_error : ImageFault → OpenError
@@ -48,7 +49,7 @@ abbrev pub IsNotOf : List ℕ → ℕ → List ℕ → OpenError → Type 0
 IsNotOf guid committed image (JournalVersion version) = ⊥
 IsNotOf guid committed image (BadJournal place) = ⊥
 IsNotOf guid committed image (ImageShort have need) = (have ≡ length image) × (need ≡ committed) × (have < need)
-IsNotOf guid committed image (ForeignJournal journal stored) = (committed ≤ length image) × (journal ≡ guid) × (stored ≡ take 16 (drop 64 image)) × (stored ≡ journal → ⊥)
+IsNotOf guid committed image (ForeignJournal journal stored) = (committed ≤ length image) × (journal ≡ guid) × (stored ≡ take 16 (drop FILE_GUID image)) × (stored ≡ journal → ⊥)
 IsNotOf guid committed image (Refused refusal) = ⊥
 IsNotOf guid committed image ImageDevice = Unit {0}
 IsNotOf guid committed image JournalDevice = ⊥
@@ -68,7 +69,7 @@ IfNotOf old new Memory = Unit {0}
 -- the image can be one of a record of this GUID and length
 pub record CanBeOf (guid : List ℕ) (committed : ℕ) (image : List ℕ) : Type 0 where
   pub long : committed ≤ length image
-  pub stored : take 16 (drop 64 image) ≡ guid
+  pub stored : take 16 (drop FILE_GUID image) ≡ guid
 
 -- a rule of reading refuses the image with what the error tells, or a call on it failed, or memory was wanting
 abbrev pub RefusesImage : List ℕ → OpenError → Type 0

@@ -19,15 +19,13 @@ ghost use Rattle.czi_opening.specs.Course.{Stays};
 ghost use Rattle.czi_opening.specs.Steps.{CanBeOf, IfNotOf, IsDevice, IsNotOf, RefusesImage};
 
 use crate::error::OpenError;
+use czi_format::FILE_GUID;
 use czi_image::{Index, read_index};
 use czi_journal::{Journal, Slot, probe};
-use czi_links::{Links, SlotHead};
+use czi_links::{LEAST_LENGTH, Links, SlotHead};
 use czi_rig::{Failed, File, Rig};
 use czi_vault::recover;
 use std::alloc::Global;
-
-/// Where the GUID stands in the image, in bytes.
-const GUID_AT: u64 = 64;
 
 /// Syncs both files.
 pub(crate) fn sync_both<R: Rig>(rig: &mut R) -> Result<(), OpenError>
@@ -51,7 +49,7 @@ pub(crate) fn sync_both<R: Rig>(rig: &mut R) -> Result<(), OpenError>
 
 /// Whether the image is long enough for a record, and has its GUID.
 fn check<R: Rig>(rig: &mut R, head: &SlotHead) -> Result<(), OpenError>
-    requires least { 112 ≤ head.now.length }
+    requires least { LEAST_LENGTH ≤ head.now.length }
 
     ensures passed { OnOk result (ForSome (seen_of (R.state rig.old) File.Image) (CanBeOf head.now.guid head.now.length)) }
     ensures refused { IfErr result (λ error. ForSome (seen_of (R.state rig.old) File.Image) (λ image. IsNotOf head.now.guid head.now.length image error)) }
@@ -66,7 +64,7 @@ fn check<R: Rig>(rig: &mut R, head: &SlotHead) -> Result<(), OpenError>
         return Err(OpenError::ImageShort { have, need });
     }
     let mut image = [0u8; 16];
-    let Ok(()) = rig.read_at(File::Image, GUID_AT, &mut image) else {
+    let Ok(()) = rig.read_at(File::Image, FILE_GUID as u64, &mut image) else {
         return Err(OpenError::ImageDevice);
     };
     let journal = head.guid;

@@ -5,7 +5,7 @@ use Rattle.czi_format.specs.Document.{Subblock, Attachment, Metadata, Document}
 use Rattle.czi_format.specs.Layout.{Place, Layout}
 use Rattle.czi_format.specs.Live.{Live}
 use Rattle.czi_format.specs.Span.{Span, sorted, span_le}
-use Rattle.czi_machine.specs.Laws.{LiesLoosely}
+use Rattle.czi_machine.specs.Laws.{LiesInImage}
 use Rattle.czi_machine.specs.Places.{live_places, space_of}
 use Rattle.czi_machine.specs.Sound.{usable_held}
 use Rattle.czi_machine.specs.State.{State, spans_of}
@@ -59,8 +59,8 @@ check_of l = check_text (1 + length (live_places l)) (length l.deleted) (length 
 
 -- The reply to `list` over an image is that of each state that lies in it.
 abbrev pub ListsState : Type 0
-ListsState = (image : List ℕ) (live : Live) (s : State) → LiesLoosely image live s → list_text live ≡ list_of s.document s.layout
+ListsState = (image : List ℕ) (live : Live) (s : State) → LiesInImage image live s → list_text live ≡ list_of s.document s.layout
 
 -- And so is the reply to `info`.
 abbrev pub DetailsState : Type 0
-DetailsState = (image : List ℕ) (live : Live) (s : State) → LiesLoosely image live s → info_text (length image) live ≡ info_of s.document s.layout
+DetailsState = (image : List ℕ) (live : Live) (s : State) → LiesInImage image live s → info_text (length image) live ≡ info_of s.document s.layout

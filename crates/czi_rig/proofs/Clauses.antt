@@ -18,7 +18,7 @@ use Rattle.czi_rig.specs.Passes.{Passes}
 use Rattle.czi_rig.specs.Faults.{Faults as FaultsAt, device_of, failed_at}
 use Rattle.czi_rig.specs.Moments.{Leaves}
 use Rattle.czi_rig.specs.Told.{Told}
-use Rattle.czi_rig.specs.Replay.{History, Faults, state_of, LeftSaying, LeftSince, disk_at, disk_now, said_now, saying, done, landed, cut_to, put, was_cut, synced, replay, IsSound, IsKept}
+use Rattle.czi_rig.specs.Replay.{History, Faults, state_of, LeftSaying, LeftSince, disk_at, disk_now, said_now, saying, done, landed, cut_to, put, was_cut, synced, replay, IsSoundDisk, IsKept}
 use Rattle.czi_rig.specs.Laws.{sound_now}
 use Rattle.czi_rig.proofs.Effects.{sound_at_rest, torn_over, torn_take, landed_within, landed_all, done_within, cut_above, cut_below, sound_put, sound_cut, sound_sync, synced_less}
 use Rattle.czi_rig.proofs.Pushed.{passes_same, passes_push}
@@ -152,7 +152,7 @@ here f g old content is at = subst (λ (g : File). content ≡ (disk_now old g).
 
 -- no file is longer than 2^62
 pub length_bound : (old : History) (f : File) {image journal said : List ℕ} → IsKept old image journal said → length (disk_now old f).seen ≤ 2 ^ 62
-length_bound old f k = let s : IsSound (disk_now old f) = sound_now old f (k.sound f) in omega (arith, s.new.no_longer, s.small)
+length_bound old f k = let s : IsSoundDisk (disk_now old f) = sound_now old f (k.sound f) in omega (arith, s.new.no_longer, s.small)
 
 pub len_is : (old : History) (a : Faults) (f : File) (content : List ℕ) (result : Result ℕ Failed) → content ≡ (disk_now old f).seen → IfOk result (λ (n : ℕ). n ≡ length content)
     → IfOk result (λ (n : ℕ). ForSome (seen_of (state_of old a) f) (λ (seen : List ℕ). n ≡ length seen))
@@ -182,7 +182,7 @@ pub record Syncs (f : File) (result : Result (Unit {0}) Failed) (old new : Histo
 pub syncs : (f : File) (result : Result (Unit {0}) Failed) (old new : History) (a b : Faults) (t u : Told) (now : List ℕ) {image journal said : List ℕ} → IsKept old image journal said
     → FileStep f (Sync f) [] (is_err result) old new a b t u now (λ (s : List ℕ). s) → Syncs f result old new a b now
 syncs f result old new a b t u now k s =
-    let sound : IsSound (disk_now old f) = sound_now old f (k.sound f) in
+    let sound : IsSoundDisk (disk_now old f) = sound_now old f (k.sound f) in
     let c : Came f (is_err result) old new now (synced (is_err result) (disk_now old f)) = came f _ [] (is_err result) old new a b t u now _ _ s (on_sync f (is_err result) (disk_now old f)) refl
     (sound_sync (is_err result) (disk_now old f) sound) k.sound in
     record {
@@ -244,7 +244,7 @@ says bytes result old new a b t u {image = image} {journal = journal} said said'
         image_is = k.image_is ∙ sym (ap (λ (d : Disk). d.seen) (disks Image));
         journal_is = k.journal_is ∙ sym (ap (λ (d : Disk). d.seen) (disks Journal));
         said_is = made.1 ∙ ap (λ (l : List ℕ). l ++ landed (is_err result) bytes) k.said_is ∙ sym now;
-        sound = sound_added Say bytes (is_err result) old new made.0 k.sound (λ f. subst IsSound (sym (disks f)) (sound_now old f (k.sound f)));
+        sound = sound_added Say bytes (is_err result) old new made.0 k.sound (λ f. subst IsSoundDisk (sym (disks f)) (sound_now old f (k.sound f)));
       };
       said_is = says_some bytes old new a b result (inr now);
       files = record { image = ap Some (disks Image); journal = ap Some (disks Journal) };
@@ -270,9 +270,9 @@ says bytes result old new a b t u {image = image} {journal = journal} said said'
     }
 
 -- a rig at first
-first_sound : (image journal : List ℕ) (f : File) (k : ℕ) → IsSound (at_rest image) → IsSound (at_rest journal) → IsSound (disk_at (record { image = image; journal = journal; calls = [] }) f k)
-first_sound image journal Image k i j = subst (λ (l : List Event). IsSound (replay Image (at_rest image) l)) (sym (take-nil k)) i
-first_sound image journal Journal k i j = subst (λ (l : List Event). IsSound (replay Journal (at_rest journal) l)) (sym (take-nil k)) j
+first_sound : (image journal : List ℕ) (f : File) (k : ℕ) → IsSoundDisk (at_rest image) → IsSoundDisk (at_rest journal) → IsSoundDisk (disk_at (record { image = image; journal = journal; calls = [] }) f k)
+first_sound image journal Image k i j = subst (λ (l : List Event). IsSoundDisk (replay Image (at_rest image) l)) (sym (take-nil k)) i
+first_sound image journal Journal k i j = subst (λ (l : List Event). IsSoundDisk (replay Journal (at_rest journal) l)) (sym (take-nil k)) j
 
 -- a file at first
 pub record IsFirst (given first bytes : List ℕ) : Type 0 where

@@ -11,7 +11,7 @@ use Rattle.czi_rig.specs.declared.call.Call.TheVariants.{Len, Read, Write, Cut, 
 use Rattle.czi_rig.specs.declared.call.Pick.{Pick}
 use Rattle.czi_rig.specs.declared.log.Event.{Event}
 use Rattle.czi_rig.specs.Disk.{Disk, Durable, Left, at_rest}
-use Rattle.czi_rig.specs.Replay.{History, LeftSince, disk_at, replay, after_call, after_event, said_after, first_saying, IsSound}
+use Rattle.czi_rig.specs.Replay.{History, LeftSince, disk_at, replay, after_call, after_event, said_after, first_saying, IsSoundDisk}
 use Rattle.czi_rig.specs.Laws.{silent}
 use Rattle.czi_rig.specs.Crash.{inside_call, inside_event, inside_first, disk_within, disk_inside, IsPainted, IsFill, IsCrash, Picked}
 use Rattle.czi_rig.proofs.Effects.{to_all, from_all}
@@ -21,7 +21,7 @@ pub replay_at : (f : File) (disk : Disk) (calls : List Event) (i : ℕ) (e : Eve
 replay_at f disk calls i e lt is =
     ap (replay f disk) (take_more calls i e lt ∙ ap (λ (x : Event). take i calls ++ x ∷ []) (sym is)) ∙ replay_push f disk (take i calls) e
 
-inside_sound_by : (f : File) (c : Call) (bytes : List ℕ) (failed : Bool) (disk : Disk) → IsSound disk → IsSound (after_call f c bytes failed disk) → IsSound (inside_call f c bytes failed disk)
+inside_sound_by : (f : File) (c : Call) (bytes : List ℕ) (failed : Bool) (disk : Disk) → IsSoundDisk disk → IsSoundDisk (after_call f c bytes failed disk) → IsSoundDisk (inside_call f c bytes failed disk)
 inside_sound_by f (Len g) bytes failed disk s a = a
 inside_sound_by f (Read g at n) bytes failed disk s a = a
 inside_sound_by f (Write g at n) bytes failed disk s a = a
@@ -30,10 +30,10 @@ inside_sound_by f (Sync g) bytes failed disk s a = s
 inside_sound_by f Say bytes failed disk s a = a
 
 -- inside a call of the log the file is sound
-pub inside_sound : (f : File) (bytes : List ℕ) (calls : List Event) (i : ℕ) (e : Event) (disk : Disk) → i < length calls → e ≡ get_or calls i e → ((k : ℕ) → IsSound (replay f (at_rest bytes) (take k calls)))
-    → disk ≡ replay f (at_rest bytes) (take i calls) → IsSound (inside_event f e disk)
-inside_sound f bytes calls i e disk lt is was at = subst (λ (d : Disk). IsSound (inside_event f e d)) (sym at)
-    (inside_sound_by f e.call e.bytes.items e.failed _ (was i) (subst IsSound (replay_at f (at_rest bytes) calls i e lt is) (was (i + 1))))
+pub inside_sound : (f : File) (bytes : List ℕ) (calls : List Event) (i : ℕ) (e : Event) (disk : Disk) → i < length calls → e ≡ get_or calls i e → ((k : ℕ) → IsSoundDisk (replay f (at_rest bytes) (take k calls)))
+    → disk ≡ replay f (at_rest bytes) (take i calls) → IsSoundDisk (inside_event f e disk)
+inside_sound f bytes calls i e disk lt is was at = subst (λ (d : Disk). IsSoundDisk (inside_event f e d)) (sym at)
+    (inside_sound_by f e.call e.bytes.items e.failed _ (was i) (subst IsSoundDisk (replay_at f (at_rest bytes) calls i e lt is) (was (i + 1))))
 
 pub within_is : (f : File) (bytes : List ℕ) (calls : List Event) (i : ℕ) (e : Event) → i < length calls → e ≡ get_or calls i e → disk_within f bytes calls i ≡ inside_event f e (replay f (at_rest bytes) (take i calls))
 within_is f bytes calls i e lt is =

@@ -5,7 +5,7 @@ use Rattle.std.proofs.lemmas.List.{places, get_or_past, get_or_default, take_all
 use Rattle.std.proofs.lemmas.Bool.{cases_lt}
 use Rattle.std.proofs.lemmas.Grind.{common_steps}
 use Rattle.czi_rig.specs.Disk.{Disk, Durable, Left, Torn, TornCut, at_rest, settled, begun_write, begun_cut, overwritten}
-use Rattle.czi_rig.specs.Replay.{done, landed, cut_to, put, was_cut, synced, IsSound}
+use Rattle.czi_rig.specs.Replay.{done, landed, cut_to, put, was_cut, synced, IsSoundDisk}
 use Rattle.czi_rig.proofs.Files.{left_settled, Left-begun_write, Left-begun_cut}
 
 length_over : (at : ℕ) (bytes seen : List ℕ) → at ≤ length seen → length (overwritten at bytes seen) ≡ max (length seen) (at + length bytes)
@@ -136,24 +136,24 @@ settled_left : (seen : List ℕ) → All (λ b. b < 2 ^ 8) seen → Left (settle
 settled_left seen a = record { bytes = a; no_shorter = omega arith; no_longer = omega arith; same = λ k lt out. refl }
 
 -- the files stay sound
-pub sound_at_rest : (seen : List ℕ) → ((k : ℕ) → get_or seen k 0 < 2 ^ 8) → length seen ≤ 2 ^ 62 → IsSound (at_rest seen)
+pub sound_at_rest : (seen : List ℕ) → ((k : ℕ) → get_or seen k 0 < 2 ^ 8) → length seen ≤ 2 ^ 62 → IsSoundDisk (at_rest seen)
 sound_at_rest seen b small = let l : Left (settled seen) seen = settled_left seen (to_all seen (record { each = b })) in record { new = l; old = l; small = small }
 
-pub sound_put : (at : ℕ) (bytes : List ℕ) (failed : Bool) (d : Disk) → at ≤ length d.seen → at + length bytes ≤ 2 ^ 62 → ((k : ℕ) → get_or bytes k 0 < 2 ^ 8) → IsSound d → IsSound (put at bytes failed d)
+pub sound_put : (at : ℕ) (bytes : List ℕ) (failed : Bool) (d : Disk) → at ≤ length d.seen → at + length bytes ≤ 2 ^ 62 → ((k : ℕ) → get_or bytes k 0 < 2 ^ 8) → IsSoundDisk d → IsSoundDisk (put at bytes failed d)
 sound_put at bytes failed d fits small b s = record {
   new = left_over at (length bytes) (landed failed bytes) d.seen d.durable fits (landed_within failed bytes) (bytes_take (done failed (length bytes)) bytes (record { each = b })) s.new;
   old = Left-begun_write at (length bytes) d.durable d.durable.synced s.old;
   small = omega (arith, s.small, small);
 }
 
-pub sound_cut : (len : ℕ) (failed : Bool) (d : Disk) → len ≤ length d.seen → IsSound d → IsSound (was_cut len failed d)
+pub sound_cut : (len : ℕ) (failed : Bool) (d : Disk) → len ≤ length d.seen → IsSoundDisk d → IsSoundDisk (was_cut len failed d)
 sound_cut len failed d fits s = record {
   new = left_take len (cut_to len failed (length d.seen)) d.durable d.seen (cut_above len failed (length d.seen)) (cut_below len failed (length d.seen) fits) s.new;
   old = Left-begun_cut len d.durable d.durable.synced s.old;
   small = s.small;
 }
 
-pub sound_sync : (failed : Bool) (d : Disk) → IsSound d → IsSound (synced failed d)
+pub sound_sync : (failed : Bool) (d : Disk) → IsSoundDisk d → IsSoundDisk (synced failed d)
 sound_sync true d s = s
 sound_sync false d s = let l : Left (settled d.seen) d.seen = settled_left d.seen s.new.bytes in record { new = l; old = l; small = omega (arith, s.new.no_longer, s.small) }
 

@@ -9,7 +9,7 @@ use Rattle.czi_rig.specs.Disk.{Disk, at_rest}
 use Rattle.czi_rig.specs.State.{Instant}
 use Rattle.czi_rig.specs.Passes.{Passes}
 use Rattle.czi_rig.specs.Moments.{Leaves}
-use Rattle.czi_rig.specs.Replay.{History, Faults, state_of, push, LeftSaying, LeftAt, LeftSince, disk_at, disk_now, said_now, said_after, first_saying, saying, landed, replay, after_event, IsSound}
+use Rattle.czi_rig.specs.Replay.{History, Faults, state_of, push, LeftSaying, LeftAt, LeftSince, disk_at, disk_now, said_now, said_after, first_saying, saying, landed, replay, after_event, IsSoundDisk}
 use Rattle.czi_rig.specs.Laws.{silent, leaves_from_left_at_end}
 
 pub replay_push : (f : File) (disk : Disk) (calls : List Event) (e : Event) → replay f disk (calls ++ e ∷ []) ≡ after_event f e (replay f disk calls)
@@ -34,10 +34,10 @@ disk_after h e Image k lt = ap (replay Image (at_rest h.image)) (take_all k (h.c
 disk_after h e Journal k lt = ap (replay Journal (at_rest h.journal)) (take_all k (h.calls ++ e ∷ []) (omega (arith, length_push h.calls e)))
 
 -- sound at each moment so far, and at one more
-pub sound_push : (h : History) (e : Event) (f : File) (k : ℕ) → ((k : ℕ) → IsSound (disk_at h f k)) → IsSound (disk_now (push h e) f) → IsSound (disk_at (push h e) f k)
+pub sound_push : (h : History) (e : Event) (f : File) (k : ℕ) → ((k : ℕ) → IsSoundDisk (disk_at h f k)) → IsSoundDisk (disk_now (push h e) f) → IsSoundDisk (disk_at (push h e) f k)
 sound_push h e f k was now = ⊎_elim
-    (λ past. subst IsSound (sym (disk_after h e f k past)) now)
-    (λ le. subst IsSound (sym (disk_before h e f k le)) (was k))
+    (λ past. subst IsSoundDisk (sym (disk_after h e f k past)) now)
+    (λ le. subst IsSoundDisk (sym (disk_before h e f k le)) (was k))
     (cases_lt (length h.calls) k)
 
 -- an earlier moment

@@ -21,7 +21,7 @@ use Rattle.czi_rig.specs.Moments.{Leaves}
 use Rattle.czi_rig.specs.Outcome.{Outcome, raised}
 use Rattle.czi_rig.specs.Memory.{history, faults}
 use Rattle.czi_rig.specs.Told.{Told, Accounts, told_by}
-use Rattle.czi_rig.specs.Replay.{History, Faults, state_of, push, LeftSaying, LeftSince, disk_at, disk_now, said_now, saying, landed, after_call, put, was_cut, synced, IsSound, IsKept}
+use Rattle.czi_rig.specs.Replay.{History, Faults, state_of, push, LeftSaying, LeftSince, disk_at, disk_now, said_now, saying, landed, after_call, put, was_cut, synced, IsSoundDisk, IsKept}
 use Rattle.czi_rig.specs.Laws.{sound_now, unspoken, left_at_end_from_leaves, may_leave_from_leaves}
 use Rattle.czi_rig.proofs.Pushed.{disk_push, said_push, sound_push, NoFewer, passes_same, passes_push}
 
@@ -170,9 +170,9 @@ said_added call bytes failed old new a =
     same : (c : Call) (b : List ℕ) (x : Bool) → c ≡ call → b ≡ bytes → x ≡ failed → said_now old ++ landed x (saying c b) ≡ said_now old ++ landed failed (saying call bytes)
     same c b x ce be xe = rw (ce, be, xe)
 
-pub sound_added : (call : Call) (bytes : List ℕ) (failed : Bool) (old new : History) → Added call bytes failed old new → ((f : File) (k : ℕ) → IsSound (disk_at old f k)) → ((f : File) → IsSound (disk_now new f)) → (f : File) (k : ℕ) → IsSound (disk_at new f k)
+pub sound_added : (call : Call) (bytes : List ℕ) (failed : Bool) (old new : History) → Added call bytes failed old new → ((f : File) (k : ℕ) → IsSoundDisk (disk_at old f k)) → ((f : File) → IsSoundDisk (disk_now new f)) → (f : File) (k : ℕ) → IsSoundDisk (disk_at new f k)
 sound_added call bytes failed old new a was now f k =
-    subst (λ (h : History). IsSound (disk_at h f k)) (sym a.is) (sound_push old a.event f k (was f) (subst (λ (h : History). IsSound (disk_now h f)) a.is (now f)))
+    subst (λ (h : History). IsSoundDisk (disk_at h f k)) (sym a.is) (sound_push old a.event f k (was f) (subst (λ (h : History). IsSoundDisk (disk_now h f)) a.is (now f)))
 
 -- a call on a file, with what it makes of that file
 pub record On (f : File) (call : Call) (bytes : List ℕ) (failed : Bool) (old made : Disk) : Type 0 where
@@ -223,7 +223,7 @@ pub record Came (f : File) (failed : Bool) (old new : History) (now : List ℕ) 
   pub now_is : now ≡ (disk_now new f).seen
   pub rest : disk_now new (other f) ≡ disk_now old (other f)
   pub said : said_now new ≡ said_now old
-  pub sound : (g : File) (k : ℕ) → IsSound (disk_at new g k)
+  pub sound : (g : File) (k : ℕ) → IsSoundDisk (disk_at new g k)
 
 each_file : (f : File) (P : File → Type 0) → P f → P (other f) → (g : File) → P g
 each_file Image P a b Image = a
@@ -232,7 +232,7 @@ each_file Journal P a b Image = b
 each_file Journal P a b Journal = a
 
 pub came : (f : File) (call : Call) (bytes : List ℕ) (failed : Bool) (old new : History) (a b : Faults) (t u : Told) (now : List ℕ) (make : List ℕ → List ℕ) (made : Disk)
-    → FileStep f call bytes failed old new a b t u now make → On f call bytes failed (disk_now old f) made → make (disk_now old f).seen ≡ made.seen → IsSound made → ((g : File) (k : ℕ) → IsSound (disk_at old g k))
+    → FileStep f call bytes failed old new a b t u now make → On f call bytes failed (disk_now old f) made → make (disk_now old f).seen ≡ made.seen → IsSoundDisk made → ((g : File) (k : ℕ) → IsSoundDisk (disk_at old g k))
     → Came f failed old new now made
 came f call bytes failed old new a b t u now make made s on seen sound was = ⊎_elim
     (λ none. record {
@@ -240,7 +240,7 @@ came f call bytes failed old new a b t u now make made s on seen sound was = ⊎
       now_is = none.2 ∙ sym (ap (λ (h : History). (disk_now h f).seen) none.1);
       rest = ap (λ (h : History). disk_now h (other f)) none.1;
       said = ap said_now none.1;
-      sound = λ g k. subst (λ (h : History). IsSound (disk_at h g k)) (sym none.1) (was g k);
+      sound = λ g k. subst (λ (h : History). IsSoundDisk (disk_at h g k)) (sym none.1) (was g k);
     })
     (λ done.
     let here : disk_now new f ≡ made = disk_added call bytes failed old new f done.0 ∙ on.same in
@@ -251,7 +251,7 @@ came f call bytes failed old new a b t u now make made s on seen sound was = ⊎
       rest = rest;
       said = said_quiet call bytes failed old new on.silent done.0;
       sound = sound_added call bytes failed old new done.0 was
-          (each_file f (λ (g : File). IsSound (disk_now new g)) (subst IsSound (sym here) sound) (subst IsSound (sym rest) (sound_now old (other f) (was (other f)))));
+          (each_file f (λ (g : File). IsSoundDisk (disk_now new g)) (subst IsSoundDisk (sym here) sound) (subst IsSoundDisk (sym rest) (sound_now old (other f) (was (other f)))));
     })
     s.step.ended
 

@@ -11,7 +11,7 @@ use Rattle.czi_rig.specs.declared.log.Event.{Event}
 use Rattle.czi_rig.specs.Disk.{Disk, Durable, Left, at_rest}
 use Rattle.czi_rig.specs.State.{MayLeave, known}
 use Rattle.czi_rig.specs.Moments.{Leaves}
-use Rattle.czi_rig.specs.Replay.{History, Faults, state_of, LeftSaying, LeftAt, LeftSince, disk_at, disk_now, said_now, said_after, first_saying, first_of, replay, IsSound, IsKept}
+use Rattle.czi_rig.specs.Replay.{History, Faults, state_of, LeftSaying, LeftAt, LeftSince, disk_at, disk_now, said_now, said_after, first_saying, first_of, replay, IsSoundDisk, IsKept}
 
 -- a crash now, in a rig's own words and in these
 pub leaves_from_may_leave : (h : History) (faults : Faults) (image journal said : List ℕ) → MayLeave (state_of h faults) image journal said
@@ -81,8 +81,8 @@ only_now_of h faults image journal said l =
     may_leave_from_leaves h faults image journal said (leaves_from_left_at_end h image journal said (subst (λ (k : ℕ). LeftAt h k image journal said) end l.left))
 
 -- a file that was sound at each moment is so now
-pub sound_now : (h : History) (f : File) → ((k : ℕ) → IsSound (disk_at h f k)) → IsSound (disk_now h f)
-sound_now h f was = subst (λ (calls : List Event). IsSound (replay f (at_rest (first_of h f)) calls)) (take_all (length h.calls) h.calls (le_refl (length h.calls))) (was (length h.calls))
+pub sound_now : (h : History) (f : File) → ((k : ℕ) → IsSoundDisk (disk_at h f k)) → IsSoundDisk (disk_now h f)
+sound_now h f was = subst (λ (calls : List Event). IsSoundDisk (replay f (at_rest (first_of h f)) calls)) (take_all (length h.calls) h.calls (le_refl (length h.calls))) (was (length h.calls))
 
 pub reads_now_of : (h : History) (faults : Faults) (f : File) {image journal said : List ℕ} → IsKept h image journal said → ForSome (known (state_of h faults) f) (λ (disk : Disk). Left disk.durable disk.seen)
 reads_now_of h faults Image k = λ (disk : Disk) is. subst (λ (d : Disk). Left d.durable d.seen) (same_Some _ disk is) (sound_now h Image (k.sound Image)).new

@@ -151,7 +151,7 @@ state_of h faults = record {
 }
 
 -- a crash may leave what reads give, and what was synced last; no file is longer than 2^62 bytes
-pub record IsSound (disk : Disk) : Type 0 where
+pub record IsSoundDisk (disk : Disk) : Type 0 where
   pub new : Left disk.durable disk.seen
   pub old : Left disk.durable disk.durable.synced
   pub small : disk.durable.greatest ≤ 2 ^ 62
@@ -161,4 +161,4 @@ pub record IsKept (h : History) (image journal said : List ℕ) : Type 0 where
   pub image_is : image ≡ (disk_now h Image).seen
   pub journal_is : journal ≡ (disk_now h Journal).seen
   pub said_is : said ≡ said_now h
-  pub sound : (f : File) (k : ℕ) → IsSound (disk_at h f k)
+  pub sound : (f : File) (k : ℕ) → IsSoundDisk (disk_at h f k)

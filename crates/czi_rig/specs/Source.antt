@@ -8,7 +8,7 @@ pub record Input : Type 0 where
 
 -- The first n of the bytes that were left now stand at the front of `into`, and the rest is left. No byte was taken
 -- exactly where none was left.
-pub record Takes (n : ℕ) (into left : List ℕ) (after : Option (List ℕ)) : Type 0 where
+pub record TakesBytes (n : ℕ) (into left : List ℕ) (after : Option (List ℕ)) : Type 0 where
   pub fits : n ≤ length left
   pub bytes : take n into ≡ take n left
   pub rest : after ≡ Some (drop n left)

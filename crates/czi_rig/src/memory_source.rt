@@ -53,7 +53,7 @@ impl Source for MemSource {
     ghost use Rattle.std.specs.Prelude.{length, is_some, is_err};
     ghost use Rattle.std.specs.Option.{ForSome};
     ghost use Rattle.czi_rig.specs.MemSource.{input_in, orders_in};
-    ghost use Rattle.czi_rig.specs.Source.{Takes, Obeys};
+    ghost use Rattle.czi_rig.specs.Source.{TakesBytes, Obeys};
     ghost use Rattle.czi_rig.specs.Faults.{Counted};
 
     ghost input = { input_in };
@@ -61,7 +61,7 @@ impl Source for MemSource {
     fn take(&mut self, into: &mut [u8]) -> Result<usize, Failed>
         requires { 0 < length into.old }
         ensures bound { IfOk result (λ n. n ≤ length into.old) }
-        ensures taken { IfOk result (λ n. ForSome (input_in self.old).left (λ left. Takes n into.new left (input_in self.new).left)) }
+        ensures taken { IfOk result (λ n. ForSome (input_in self.old).left (λ left. TakesBytes n into.new left (input_in self.new).left)) }
         ensures kept { OnErr result ((input_in self.new).left ≡ (input_in self.old).left) }
         ensures told { is_some (input_in self.new).left ≡ is_some (input_in self.old).left }
         ensures later { (input_in self.old).faults ≤ (input_in self.new).faults }

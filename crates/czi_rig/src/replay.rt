@@ -1,7 +1,7 @@
 // A file as its calls left it, made again from the log.
 ghost use Rattle.std.specs.Prelude.{◌≡◌, ◌+◌, ◌<◌, ◌≤◌, ◌^◌, ℕ, length, take, min, slice_index, IfOk, OnOk};
 ghost use Rattle.czi_rig.specs.Disk.{Left, at_rest, overwritten};
-ghost use Rattle.czi_rig.specs.Replay.{IsSound, after_event, replay, same_file, synced, was_cut, put};
+ghost use Rattle.czi_rig.specs.Replay.{IsSoundDisk, after_event, replay, same_file, synced, was_cut, put};
 ghost use Rattle.czi_rig.specs.Crash.{disk_in, disk_within, inside_event, Filled, IsPainted, Picked};
 
 use crate::content::{length_cut, overwrite};
@@ -137,7 +137,7 @@ impl Replayed {
     /// The synced bytes up to the least length, and this byte at each place that a crash leaves open, in the greatest
     /// length or the least.
     fn fill(&self, alloc: Global, byte: u8, long: bool) -> Result<Vec<u8>, AllocError>
-        requires { IsSound (disk_in self.now) }
+        requires { IsSoundDisk (disk_in self.now) }
         ensures left { IfOk result (λ left. Left (disk_in self.now).durable left.items) }
         ensures filled { IfOk result (λ left. Filled byte long (disk_in self.now).durable left.items) }
     {
@@ -151,7 +151,7 @@ impl Replayed {
     }
 
     fn pick(self, alloc: Global, pick: Pick) -> Result<Vec<u8>, AllocError>
-        requires { IsSound (disk_in self) }
+        requires { IsSoundDisk (disk_in self) }
         ensures left { IfOk result (λ left. Left (disk_in self).durable left.items) }
         ensures picked { IfOk result (λ left. Picked pick (disk_in self) left.items) }
     {
@@ -171,7 +171,7 @@ impl Replayed {
         number: usize,
     ) -> Result<Replayed, AllocError>
         requires in_calls { number ≤ length calls.now }
-        requires sound { (k : ℕ) → IsSound (replay f (at_rest bytes.now) (take k calls.now)) }
+        requires sound { (k : ℕ) → IsSoundDisk (replay f (at_rest bytes.now) (take k calls.now)) }
         ensures { IfOk result (λ r. disk_in r ≡ replay f (at_rest bytes.now) (take number calls.now)) }
     {
         let mut disk = Replayed::at_rest(alloc, bytes)?;
@@ -191,7 +191,7 @@ impl Replayed {
         pick: Pick,
     ) -> Result<Vec<u8>, AllocError>
         requires in_calls { number < length calls.now }
-        requires sound { (k : ℕ) → IsSound (replay f (at_rest bytes.now) (take k calls.now)) }
+        requires sound { (k : ℕ) → IsSoundDisk (replay f (at_rest bytes.now) (take k calls.now)) }
         ensures left { IfOk result (λ left. Left (disk_within f bytes.now calls.now number).durable left.items) }
         ensures picked { IfOk result (λ left. Picked pick (disk_within f bytes.now calls.now number) left.items) }
     {

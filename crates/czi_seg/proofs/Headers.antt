@@ -9,7 +9,7 @@ use Rattle.czi_format.proofs.Fields.{put_zeros}
 use Rattle.czi_format.proofs.Heads.{header_moved}
 use Rattle.czi_format.proofs.HeaderRules.{no_front, part_front}
 use Rattle.czi_seg.specs.View.{header_of}
-use Rattle.czi_seg.specs.HeaderView.{Refuses, SaysOfHeader}
+use Rattle.czi_seg.specs.HeaderView.{TellsHeaderRule, SaysOfHeader}
 use Rattle.czi_seg.specs.declared.header.SegHeader.{SegHeader}
 use Rattle.czi_seg.specs.declared.file_header.HeaderFault.{HeaderFault}
 use Rattle.czi_seg.specs.declared.file_header.HeaderFault.TheVariants.{Short, BadId, BadSizes, MultiPart}
@@ -67,7 +67,7 @@ file_header_written h segment b1 b2 b3 b4 b5 b6 wide long is e1 e2 e3 e4 e5 e6 =
     ∙ ap (λ l. l ++ (h.identity ++ (d ++ (m ++ (p ++ (a ++ zeros)))))) is)))))
 
 -- what each fault says
-pub says : (bytes : List ℕ) (fault : HeaderFault) → Refuses bytes fault → SaysOfHeader bytes fault
+pub says : (bytes : List ℕ) (fault : HeaderFault) → TellsHeaderRule bytes fault → SaysOfHeader bytes fault
 says bytes Short refuses = no_front bytes refusal.short refuses (λ z e. cc)
 says bytes BadId refuses = no_front bytes refusal.bad_id refuses (λ z e. cc)
 says bytes BadSizes refuses = no_front bytes refusal.bad_sizes refuses (λ z e. cc)

@@ -35,8 +35,8 @@ SaysOfHeader bytes BadSizes = front_header bytes ≡ None
 SaysOfHeader bytes (MultiPart part) = (header : FileHeader) × (front_header bytes ≡ Some header) × (header.part ≡ part)
 
 -- the fault tells the first rule that fails
-abbrev pub Refuses : List ℕ → HeaderFault → Type 0
-Refuses bytes Short = header_rules bytes ≡ Err rules.short
-Refuses bytes BadId = header_rules bytes ≡ Err rules.bad_id
-Refuses bytes BadSizes = header_rules bytes ≡ Err rules.bad_sizes
-Refuses bytes (MultiPart part) = header_rules bytes ≡ Err (rules.multi_part part)
+abbrev pub TellsHeaderRule : List ℕ → HeaderFault → Type 0
+TellsHeaderRule bytes Short = header_rules bytes ≡ Err rules.short
+TellsHeaderRule bytes BadId = header_rules bytes ≡ Err rules.bad_id
+TellsHeaderRule bytes BadSizes = header_rules bytes ≡ Err rules.bad_sizes
+TellsHeaderRule bytes (MultiPart part) = header_rules bytes ≡ Err (rules.multi_part part)

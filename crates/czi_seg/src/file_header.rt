@@ -5,10 +5,14 @@ ghost use Rattle.czi_format.specs.Bytes.{bytes_at, i32_at};
 ghost use Rattle.czi_format.specs.Live.{file_header_bytes, front_head, has_header_sizes, header_fields, header_with};
 ghost use Rattle.czi_format.specs.HeaderRules.{HeaderRefusal, header_rules};
 ghost use Rattle.czi_seg.specs.View.{header_of};
-ghost use Rattle.czi_seg.specs.HeaderView.{ReadsHeader, Refuses, SaysOfHeader, fault_of, head_of};
+ghost use Rattle.czi_seg.specs.HeaderView.{ReadsHeader, TellsHeaderRule, SaysOfHeader, fault_of, head_of};
 
 use crate::header::{SegHeader, read_header, write_header};
 use crate::id::SegId;
+use czi_format::{
+    ATTDIR_POSITION, DIRECTORY_POSITION, FILE_PART, HEADER_FRONT, LEAST_HEADER_DATA,
+    METADATA_POSITION, UPDATE_PENDING,
+};
 use czi_num::{read_bytes, read_i32, read_i64, write_bytes, write_i32, write_i64};
 
 /// The file header of the first part of a file: the segment at place 0.
@@ -64,10 +68,10 @@ pub fn read_file_header(bytes: &[u8]) -> Result<FileHeader, HeaderFault>
     let header = read_segment(bytes)?;
     Ok(FileHeader {
         identity: read_bytes(bytes, 32),
-        directory: read_i64(bytes, 84),
-        metadata: read_i64(bytes, 92),
-        pending: read_i32(bytes, 100),
-        attachments: read_i64(bytes, 104),
+        directory: read_i64(bytes, DIRECTORY_POSITION),
+        metadata: read_i64(bytes, METADATA_POSITION),
+        pending: read_i32(bytes, UPDATE_PENDING),
+        attachments: read_i64(bytes, ATTDIR_POSITION),
         allocated: header.allocated,
     })
 }
@@ -76,10 +80,10 @@ pub fn read_file_header(bytes: &[u8]) -> Result<FileHeader, HeaderFault>
 #[tactic(auto, unfolding(czi_format::specs::HeaderRules::header_rules, czi_format::specs::Segment::file_id))]
 fn read_segment(bytes: &[u8]) -> Result<SegHeader, HeaderFault>
     ensures passes { IfOk result (λ header. header_rules bytes.now ≡ Ok (header_fields bytes.now (header_of 0 header))) }
-    ensures long { IfOk result (λ _. 112 ≤ length bytes.now) }
-    ensures refused { IfErr result (Refuses bytes.now) }
+    ensures long { IfOk result (λ _. HEADER_FRONT ≤ length bytes.now) }
+    ensures refused { IfErr result (TellsHeaderRule bytes.now) }
 {
-    if bytes.len() < 112 {
+    if bytes.len() < HEADER_FRONT {
         return Err(HeaderFault::Short);
     }
     if read_bytes::<16>(bytes, 0) != *b"ZISRAWFILE\0\0\0\0\0\0" {
@@ -91,7 +95,7 @@ fn read_segment(bytes: &[u8]) -> Result<SegHeader, HeaderFault>
     if !has_header_sizes(&header) {
         return Err(HeaderFault::BadSizes);
     }
-    let part = read_i32(bytes, 80);
+    let part = read_i32(bytes, FILE_PART);
     if part != 0 {
         return Err(HeaderFault::MultiPart(part));
     }
@@ -102,8 +106,9 @@ fn read_segment(bytes: &[u8]) -> Result<SegHeader, HeaderFault>
 fn has_header_sizes(header: &SegHeader) -> bool
     ensures { result ≡ has_header_sizes (header_of 0 header.now) }
 {
-    80 <= header.allocated
-        && (header.used == 0 || (80 <= header.used && header.used <= header.allocated))
+    let least = LEAST_HEADER_DATA as u64;
+    least <= header.allocated
+        && (header.used == 0 || (least <= header.used && header.used <= header.allocated))
 }
 
 /// The 544 bytes of a file header with 512 bytes of data, all of them used.
@@ -122,9 +127,9 @@ pub fn write_file_header(h: &FileHeader) -> [u8; 544]
     };
     write_bytes(&mut bytes, 0, &write_header(&segment));
     write_bytes(&mut bytes, 32, &h.identity);
-    write_i64(&mut bytes, 84, h.directory);
-    write_i64(&mut bytes, 92, h.metadata);
-    write_i32(&mut bytes, 100, h.pending);
-    write_i64(&mut bytes, 104, h.attachments);
+    write_i64(&mut bytes, DIRECTORY_POSITION, h.directory);
+    write_i64(&mut bytes, METADATA_POSITION, h.metadata);
+    write_i32(&mut bytes, UPDATE_PENDING, h.pending);
+    write_i64(&mut bytes, ATTDIR_POSITION, h.attachments);
     bytes
 }

@@ -1,11 +1,11 @@
 -- What the calls of a map do, from what their parts do.
 use Rattle.std.proofs.Common.{◌≡◌, ℕ, suc, ◌+◌, ◌-◌, ◌<◌, ◌≤◌, List, [], ◌∷◌, ◌++◌, map, take, drop, length, get_or, Option, Some, None, Ok, ap, sym, ◌∙◌, subst, arith}
 use Rattle.std.specs.List.{prefix_len}
-use Rattle.czi_format.specs.Span.{Span, end_of}
+use Rattle.czi_format.specs.Span.{Span, end_of, LiesInOne}
 use Rattle.czi_format.specs.Space.{without, free_runs, use_all, place_for, place_past, together, with_next, with_freed, with_held, cut_to, from_to}
 use Rattle.czi_num.specs.declared.span.Span.{Span as CodeSpan}
 use Rattle.czi_num.specs.Span.{span_of}
-use Rattle.czi_space.specs.State.{AreExtents, IsInOrder, LiesInOne, MeetsNone, IsHeld, ends_by, comes_before, some_of, lowest_of}
+use Rattle.czi_space.specs.State.{AreExtents, IsInOrder, MeetsNone, IsHeld, ends_by, comes_before, some_of, lowest_of}
 use Rattle.czi_space.proofs.Taken.{TakenAt, taken_at, some_between}
 use Rattle.czi_space.proofs.Freed.{FreedAt, freed_at}
 use Rattle.czi_space.proofs.Held.{ReleasedAt, held_at, released_at}

@@ -3,9 +3,9 @@ use Rattle.std.proofs.Common.{◌≡◌, ℕ, zero, suc, ◌+◌, ◌<◌, ◌�
 use Rattle.std.specs.List.{prefix_len}
 use Rattle.std.proofs.lemmas.Bool.{cases_lt, cases_Bool, leb-true, leb-false, lt-ltb, le-ltb, ltb-false, eqb-true}
 use Rattle.std.proofs.lemmas.Bool.Decides.{nat_tests}
-use Rattle.czi_format.specs.Span.{Span, end_of, meets}
+use Rattle.czi_format.specs.Span.{Span, end_of, meets, IsWhole}
 use Rattle.czi_format.specs.Space.{together, with_next, with_freed}
-use Rattle.czi_space.specs.State.{AreExtents, IsWhole, MeetsNone, ends_by}
+use Rattle.czi_space.specs.State.{AreExtents, MeetsNone, ends_by}
 
 freed_before : (s x : Span) (rest : List Span) → s.at < x.at → with_freed s (x ∷ rest) ≡ with_next s (x ∷ rest)
 freed_before s x rest h = let test : nat_lt s.at x.at ≡ true = lt-ltb _ _ h in rw test

@@ -2,9 +2,9 @@
 use Rattle.std.proofs.Common.{◌≡◌, ◌⊎◌, ℕ, suc, ◌+◌, ◌-◌, ◌%◌, ◌<◌, ◌≤◌, List, [], ◌∷◌, ◌++◌, map, take, drop, length, get_or, max, min, true, false, nat_lt, refl, ap, sym, ◌∙◌, subst, arith, inl, inr, append_assoc}
 use Rattle.std.specs.List.{flat_map, prefix_len}
 use Rattle.std.proofs.lemmas.Bool.{cases_lt, cases_Bool, leb-true, leb-false, lt-ltb, le-ltb, ltb-true}
-use Rattle.czi_format.specs.Span.{Span, end_of, meets}
+use Rattle.czi_format.specs.Span.{Span, end_of, meets, IsWhole, LiesInOne}
 use Rattle.czi_format.specs.Space.{from_to, left_of, without}
-use Rattle.czi_space.specs.State.{AreExtents, IsWhole, LiesInOne, ends_by, some_of}
+use Rattle.czi_space.specs.State.{AreExtents, ends_by, some_of}
 use Rattle.czi_space.proofs.Parts.{some_places, no_places}
 
 left_met : (s x : Span) → meets s x ≡ true → left_of s x ≡ from_to x.at s.at ++ from_to (end_of s) (end_of x)

@@ -1,7 +1,7 @@
 -- What a map of free space shows, and what is always so of it.
-use Rattle.std.specs.Prelude.{◌≡◌, ◌⊎◌, ℕ, ◌%◌, ◌<◌, ◌≤◌, List, [], ◌∷◌, ◌++◌, Bool, not, IsTrue, IsFalse, Option, option_map, find, nat_le, nat_lt, Result, Ok, Err, if◌then◌else◌}
+use Rattle.std.specs.Prelude.{◌≡◌, ◌⊎◌, ℕ, ◌≤◌, List, [], ◌∷◌, ◌++◌, Bool, not, IsTrue, IsFalse, Option, option_map, find, nat_le, nat_lt, Result, Ok, Err, if◌then◌else◌}
 use Rattle.std.specs.List.{AllByRecursion}
-use Rattle.czi_format.specs.Span.{Span, end_of, meets, span_le}
+use Rattle.czi_format.specs.Span.{Span, end_of, meets, span_le, IsWhole}
 use Rattle.czi_format.specs.Space.{Space, Full, free_runs}
 use Rattle.czi_space.specs.declared.place.Place.{Place}
 use Rattle.czi_space.specs.declared.place.Place.TheVariants.{At, Full as Filled}
@@ -13,12 +13,6 @@ pub record MapState : Type 0 where
   pub held : List Span
   pub length : ℕ
   pub spare : ℕ
-
--- at multiples of 32, and not empty
-pub record IsWhole (s : Span) : Type 0 where
-  pub at : s.at % 32 ≡ 0
-  pub len : s.len % 32 ≡ 0
-  pub some : 0 < s.len
 
 -- from a place up to another stand these extents: aligned, rising and disjoint
 abbrev pub AreExtents : ℕ → ℕ → List Span → Type 0
@@ -43,11 +37,6 @@ pub record Has (m : MapState) (es hs : List Span) (n : ℕ) : Type 0 where
 -- where needs can go
 abbrev pub space_of : MapState → Space
 space_of m = record { runs = free_runs m.held m.extents; length = m.length }
-
--- one of the spans has all places of s
-abbrev pub LiesInOne : Span → List Span → Type 0
-LiesInOne s [] = ⊥
-LiesInOne s (e ∷ rest) = ((e.at ≤ s.at) × (end_of s ≤ end_of e)) ⊎ LiesInOne s rest
 
 abbrev pub MeetsNone : Span → List Span → Type 0
 MeetsNone s spans = AllByRecursion (λ e. IsFalse (meets s e)) spans

@@ -32,10 +32,10 @@ impl Model for Map {
 
 impl Map {
     ghost use Rattle.std.specs.Prelude.{◌≡◌, ◌+◌, ◌≤◌, ◌∷◌, [], length, map, OnOk, OnErr, IfOk, IsTrue};
-    ghost use Rattle.czi_format.specs.Span.{end_of, is_aligned};
+    ghost use Rattle.czi_format.specs.Span.{end_of, is_aligned, IsWhole, LiesInOne};
     ghost use Rattle.czi_format.specs.Space.{without, place_for, use_all, with_freed, with_held, released, cut_to, free_runs};
     ghost use Rattle.czi_num.specs.Span.{span_of};
-    ghost use Rattle.czi_space.specs.State.{AreExtents, IsWhole, Has, space_of, LiesInOne, MeetsNone, IsHeld, place_of};
+    ghost use Rattle.czi_space.specs.State.{AreExtents, Has, space_of, MeetsNone, IsHeld, place_of};
 
     /// A map of these extents, which are aligned, rising and disjoint and end at or below the length. No span
     /// is held. It takes no memory.

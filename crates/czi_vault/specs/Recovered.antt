@@ -5,6 +5,7 @@ use Rattle.czi_rig.specs.Moments.{Devices, LeavesNow}
 use Rattle.czi_links.specs.Record.{Bytes, Record}
 use Rattle.czi_links.specs.Reading.{Reading, Void, Holds, OfVersion, BadAt}
 use Rattle.czi_journal.specs.Journals.{slot_of}
+use Rattle.czi_format.specs.declared.numbers.TheConstants.{UPDATE_PENDING, FILE_GUID}
 
 -- the links written over an image
 abbrev pub with_links : List Bytes → List ℕ → List ℕ
@@ -13,12 +14,12 @@ with_links (l ∷ ls) image = with_links ls (overwritten l.place l.bytes image)
 
 -- an image cut to the committed length, with the links written over it and byte 100 set to 0
 abbrev pub applied : Record → List ℕ → List ℕ
-applied r image = overwritten 100 (0 ∷ []) (with_links r.links (take r.committed image))
+applied r image = overwritten UPDATE_PENDING (0 ∷ []) (with_links r.links (take r.committed image))
 
 -- a record is of this image, and makes these bytes of it
 pub record Makes (r : Record) (image bytes : List ℕ) : Type 0 where
   pub long : r.committed ≤ length image
-  pub guid : take 16 (drop 64 image) ≡ r.guid
+  pub guid : take 16 (drop FILE_GUID image) ≡ r.guid
   pub is : bytes ≡ applied r image
 
 abbrev pub StandsFor : Reading → List ℕ → List ℕ → Type 0

@@ -14,8 +14,9 @@ ghost use Rattle.czi_vault.specs.Puts.{ranges};
 ghost use Rattle.czi_vault.specs.Alone.{AloneNow, HasBytesBut100, KeepsOr};
 
 use crate::recover;
+use czi_format::FILE_GUID;
 use czi_journal::{Journal, flip, stage};
-use czi_links::{Links, SlotHead};
+use czi_links::{LEAST_LENGTH, Links, SLOT_LEN, SlotHead};
 use czi_rig::{Failed, File, Rig};
 
 /// A call on this file failed.
@@ -29,7 +30,7 @@ pub enum VaultFault {
 fn switch<R: Rig>(rig: &mut R, journal: &mut Journal, bytes: &[u8]) -> Result<(), Failed>
     requires armed { IsTrue journal.old.armed }
     requires counts { ForSome (known (R.state rig.old) File.Journal) (Everywhere (CountsWith journal.old.selected)) }
-    requires room { length bytes.now ≤ 262144 }
+    requires room { length bytes.now ≤ SLOT_LEN }
 
     ensures moments { ForSome (devices (R.state rig.old)) (λ all. (r : Record) → Spells r bytes.now
         → Throughout R.Rig rig.old rig.new (λ image j said. Left all.image.durable image × (SaysAsBefore all.journal.durable j ⊎ (slot_of j ≡ Holds r)) × (said ≡ all.said))) }
@@ -63,13 +64,13 @@ pub fn commit<R: Rig>(
     requires armed { IsTrue journal.old.armed }
     requires counts { ForSome (known (R.state rig.old) File.Journal) (Everywhere (CountsWith journal.old.selected)) }
     requires synced { ForSome (known (R.state rig.old) File.Image) IsAtRest }
-    requires least { 112 ≤ head.now.length }
+    requires least { LEAST_LENGTH ≤ head.now.length }
     requires greatest { head.now.length ≤ 2 ^ 62 }
     requires ends { EndWithin head.now.length links.now.links }
     requires in_file { ForSome (seen_of (R.state rig.old) File.Image) (λ seen. head.now.length ≤ length seen) }
-    requires guid { ForSome (seen_of (R.state rig.old) File.Image) (λ seen. take 16 (drop 64 seen) ≡ head.now.guid) }
-    requires fits { encoded_len links.now.links ≤ 262144 }
-    requires buffer { length buffer.old ≡ 262144 }
+    requires guid { ForSome (seen_of (R.state rig.old) File.Image) (λ seen. take 16 (drop FILE_GUID seen) ≡ head.now.guid) }
+    requires fits { encoded_len links.now.links ≤ SLOT_LEN }
+    requires buffer { length buffer.old ≡ SLOT_LEN }
 
     // At every moment the files stand for what they stood for, or for the new image.
     ensures moments { ForSome (devices (R.state rig.old)) (λ all. (view : View) → StandsNow view all

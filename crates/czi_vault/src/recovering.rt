@@ -12,7 +12,8 @@ ghost use Rattle.czi_vault.specs.Recovered.{applied, View, Stands, StandsNow};
 ghost use Rattle.czi_vault.specs.Puts.{ranges, begun_each, wrote_each};
 ghost use Rattle.czi_vault.specs.Alone.{Waits};
 
-use czi_links::{Links, SlotHead};
+use czi_format::UPDATE_PENDING;
+use czi_links::{LEAST_LENGTH, Links, SlotHead};
 use czi_rig::{Failed, File, Rig, cut_synced, write_synced};
 
 /// Byte 100 of an image that waits for its journal.
@@ -68,7 +69,7 @@ fn cut_to<R: Rig>(rig: &mut R, len: u64) -> Result<(), Failed>
 /// Four steps, each synced before the next: byte 100 is written as 1; each link is written, one write each, also
 /// where two stand side by side; the image is cut where it is longer; byte 100 is written as 0.
 pub fn recover<R: Rig>(rig: &mut R, links: &Links, head: &SlotHead) -> Result<(), Failed>
-    requires least { 112 ≤ head.now.length }
+    requires least { LEAST_LENGTH ≤ head.now.length }
     requires greatest { head.now.length ≤ 2 ^ 62 }
     requires ends { EndWithin head.now.length links.now.links }
     requires in_file { ForSome (seen_of (R.state rig.old) File.Image) (λ seen. head.now.length ≤ length seen) }
@@ -86,9 +87,9 @@ pub fn recover<R: Rig>(rig: &mut R, links: &Links, head: &SlotHead) -> Result<()
     ensures cause { Faults (failed_at result (device_of File.Image)) (R.state rig.old) (R.state rig.new) }
 {
     let count = links.count();
-    write_synced(rig, File::Image, 100, &[PENDING])?;
+    write_synced(rig, File::Image, UPDATE_PENDING as u64, &[PENDING])?;
     put_links(rig, links, count)?;
     cut_to(rig, head.length)?;
-    write_synced(rig, File::Image, 100, &[READY])?;
+    write_synced(rig, File::Image, UPDATE_PENDING as u64, &[READY])?;
     Ok(())
 }

@@ -4,8 +4,8 @@ use Rattle.czi_image.proofs.Told.{ok_weaker, err_weaker, tells_same}
 use Rattle.czi_image.proofs.Settled.{front_settled}
 use Rattle.czi_image.proofs.header.read_header_at_front.Goals as goal
 
-pub returns-then-size-lt112-clause-refused : goal.returns-then-size-lt112-clause-refused
-returns-then-size-lt112-clause-refused g c = λ image is. let long : c.args.size ≡ length image = c.requires.size image is in no_header image (omega (arith, long))
+pub returns-then-size-clause-refused : goal.returns-then-size-clause-refused
+returns-then-size-clause-refused g c = λ image is. let long : c.args.size ≡ length image = c.requires.size image is in no_header image (omega (arith, long))
 
 pub returns-in-Ok-clause-found : goal.returns-in-Ok-clause-found
 returns-in-Ok-clause-found g c = ok_weaker c.header_in.result _ _

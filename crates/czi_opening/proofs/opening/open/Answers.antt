@@ -1,5 +1,6 @@
 use Rattle.czi_opening.specs.Course.{Stays}
-use Rattle.czi_opening.proofs.Standing.{from_synced, opens_from}
+use Rattle.std.proofs.Common.{refl}
+use Rattle.czi_opening.proofs.Standing.{both_rest, from_synced, opens_from, rest_stays}
 use Rattle.czi_opening.proofs.Restoring.{synced_devices}
 use Rattle.czi_opening.proofs.opening.open.Goals as goal
 
@@ -11,4 +12,5 @@ returns-clause-moments g c = λ all is.
     let ok = c.in_ok-sync_both.ensures in
     let now = synced_devices (rig.state first) (rig.state mid) all is ok.image ok.journal c.sync_both.ensures.said in
     opens_from rig first c.open_synced.new.rig (Stays all) c.open_synced.result
-    (from_synced rig first mid c.open_synced.new.rig all g.met.R.Rig.only_now is c.sync_both.ensures.moments c.sync_both.ensures.goes_on.later now (c.open_synced.ensures.moments _ now))
+    (from_synced rig first mid c.open_synced.new.rig all (Stays all) g.met.R.Rig.only_now is c.sync_both.ensures.moments c.sync_both.ensures.goes_on.later now
+    (rest_stays (both_rest all) refl refl) (c.open_synced.ensures.moments _ now))
