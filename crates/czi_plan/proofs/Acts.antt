@@ -6,13 +6,10 @@ use Rattle.std.proofs.lemmas.Bool.{cases_Bool, eq-eqb, eqb-true}
 use Rattle.std.proofs.lemmas.List.{drop-drop, drop-map, drop_all, length-drop, length-take-le, map-append, take-append-drop, take-map}
 use Rattle.std.proofs.lemmas.List.Sums.{sum_by-append}
 use Rattle.std.specs.List.{AllByRecursion}
-use Rattle.czi_format.specs.Entry.{Entry, entry_len}
 use Rattle.czi_format.specs.Layout.{Place}
 use Rattle.czi_image.specs.Change.{AreWithin, act_of}
-use Rattle.czi_image.specs.View.{tile_of}
 use Rattle.czi_image.specs.declared.change.Act.{Act as CodeAct}
 use Rattle.czi_image.specs.declared.change.Act.TheVariants.{Out, Put, Into}
-use Rattle.czi_image.specs.declared.types.Tile.{Tile}
 use Rattle.czi_machine.specs.Change.{Act, bring, brought, changed, keep, mapped, omit, omitted, out, past}
 use Rattle.czi_machine.specs.Cover.{cover}
 use Rattle.czi_machine.specs.Places.{Asked, patched_len}
@@ -22,9 +19,11 @@ use Rattle.czi_machine.specs.State.{spans_of}
 use Rattle.czi_machine.specs.Table.{changes}
 use Rattle.czi_machine.proofs.Changing.{changed-into, changed-out, changed-put}
 use Rattle.czi_machine.proofs.Ranges.{not_same, not_same', range_into, range_out, range_put}
-use Rattle.czi_plan.specs.Changing.{back_entries, front_entries, middle_entries, size_of, stays_behind, tiles_before, tiles_behind, tiles_brought, tiles_leaving}
-use Rattle.czi_plan.specs.Directory.{as_long, back_of, directory_size, entries_of, middle_of}
-use Rattle.czi_plan.proofs.Entries.{size_of_both}
+use Rattle.czi_plan.specs.Changing.{back_entries, entries_in, front_entries, middle_entries, size_of, stays_behind, tiles_before, tiles_behind, tiles_brought, tiles_leaving}
+use Rattle.czi_plan.specs.Directory.{as_long_in, back_in, middle_in}
+use Rattle.czi_plan.specs.Kind.{Kind}
+use Rattle.czi_plan.specs.Listing.{entries_len, size_in}
+use Rattle.czi_plan.proofs.Entries.{size_both}
 
 out_parts : {Y : Type 0} (i : ℕ) (ys : List Y) → ys ≡ take i ys ++ (take 1 (drop i ys) ++ drop (i + 1) ys)
 out_parts i ys = sym (take-append-drop i ys) ∙ ap (λ l. take i ys ++ l) (sym (take-append-drop 1 (drop i ys)) ∙ ap (λ l. take 1 (drop i ys) ++ l) (drop-drop 1 i ys))
@@ -187,60 +186,60 @@ range_act f size (Into i x) ps ls never new w long some some' once =
     ∙ (ap sum (behind_seam i ls rest (omega (arith, w.0, long))) ∙ (sum-both (size x ∷ []) (drop i ls) ∙ sym (rw none refl)))
 
 -- the lengths of entries before an act, of those that leave, and of those behind
-pub lens_before : {X : Type 0} (a : CodeAct X) (ts : List Tile) → tiles_before a (map entry_len (entries_of ts)) ≡ map entry_len (entries_of (tiles_before a ts))
-lens_before a ts = sym (ap (map entry_len) (map_before (λ (t : Tile). (tile_of t).entry) a ts) ∙ map_before entry_len a (entries_of ts))
+pub lens_before : {X C E S : Type 0} (k : Kind C E S) (a : CodeAct X) (ts : List C) → tiles_before a (map k.len (entries_in k ts)) ≡ map k.len (entries_in k (tiles_before a ts))
+lens_before k a ts = sym (ap (map k.len) (map_before k.entry a ts) ∙ map_before k.len a (entries_in k ts))
 
-pub lens_leaving : {X : Type 0} (a : CodeAct X) (ts : List Tile) → tiles_leaving a (map entry_len (entries_of ts)) ≡ map entry_len (entries_of (tiles_leaving a ts))
-lens_leaving a ts = sym (ap (map entry_len) (map_leaving (λ (t : Tile). (tile_of t).entry) a ts) ∙ map_leaving entry_len a (entries_of ts))
+pub lens_leaving : {X C E S : Type 0} (k : Kind C E S) (a : CodeAct X) (ts : List C) → tiles_leaving a (map k.len (entries_in k ts)) ≡ map k.len (entries_in k (tiles_leaving a ts))
+lens_leaving k a ts = sym (ap (map k.len) (map_leaving k.entry a ts) ∙ map_leaving k.len a (entries_in k ts))
 
-pub lens_behind : {X : Type 0} (a : CodeAct X) (ts : List Tile) → tiles_behind a (map entry_len (entries_of ts)) ≡ map entry_len (entries_of (tiles_behind a ts))
-lens_behind a ts = sym (ap (map entry_len) (map_behind (λ (t : Tile). (tile_of t).entry) a ts) ∙ map_behind entry_len a (entries_of ts))
+pub lens_behind : {X C E S : Type 0} (k : Kind C E S) (a : CodeAct X) (ts : List C) → tiles_behind a (map k.len (entries_in k ts)) ≡ map k.len (entries_in k (tiles_behind a ts))
+lens_behind k a ts = sym (ap (map k.len) (map_behind k.entry a ts) ∙ map_behind k.len a (entries_in k ts))
 
 -- the entries in the middle and at the back
-pub parts_behind : (come leaving behind : List Entry) → middle_of come leaving behind ++ back_of come leaving behind ≡ come ++ behind
-parts_behind come leaving behind = elim (cases_Bool (as_long come leaving)) [ inl e ↦ rw e refl | inr e ↦ rw e (append-nil (come ++ behind)) ]
+pub parts_behind : {C E S : Type 0} (k : Kind C E S) (come leaving behind : List E) → middle_in k.len come leaving behind ++ back_in k.len come leaving behind ≡ come ++ behind
+parts_behind k come leaving behind = elim (cases_Bool (as_long_in k.len come leaving)) [ inl e ↦ rw e refl | inr e ↦ rw e (append-nil (come ++ behind)) ]
 
 -- all of them
-pub entries_after_act : (a : CodeAct Tile) (ts : List Tile) → entries_of (changed (act_of a) ts) ≡ front_entries a ts ++ (middle_entries a ts ++ back_entries a ts)
-entries_after_act a ts =
-    ap entries_of (changed_act a ts) ∙ (map-three (λ (t : Tile). (tile_of t).entry) (tiles_before a ts) (tiles_brought a) (tiles_behind a ts) ∙ ap (λ l. front_entries a ts ++ l) (sym (parts_behind (entries_of (tiles_brought a)) (entries_of (tiles_leaving a ts)) (entries_of (tiles_behind a ts)))))
+pub entries_after_act : {C E S : Type 0} (k : Kind C E S) (a : CodeAct C) (ts : List C) → entries_in k (changed (act_of a) ts) ≡ front_entries k a ts ++ (middle_entries k a ts ++ back_entries k a ts)
+entries_after_act k a ts =
+    ap (entries_in k) (changed_act a ts) ∙ (map-three k.entry (tiles_before a ts) (tiles_brought a) (tiles_behind a ts) ∙ ap (λ l. front_entries k a ts ++ l) (sym (parts_behind k (entries_in k (tiles_brought a)) (entries_in k (tiles_leaving a ts)) (entries_in k (tiles_behind a ts)))))
 
 -- what stood in the place of those in the middle
-abbrev pub old_entries : CodeAct Tile → List Tile → List Entry
-old_entries a ts = if stays_behind a ts then entries_of (tiles_leaving a ts) else entries_of (tiles_leaving a ts) ++ entries_of (tiles_behind a ts)
+abbrev pub old_entries : {C E S : Type 0} → Kind C E S → CodeAct C → List C → List E
+old_entries k a ts = if stays_behind k a ts then entries_in k (tiles_leaving a ts) else entries_in k (tiles_leaving a ts) ++ entries_in k (tiles_behind a ts)
 
-pub entries_before_act : (a : CodeAct Tile) (ts : List Tile) → entries_of ts ≡ front_entries a ts ++ (old_entries a ts ++ back_entries a ts)
-entries_before_act a ts =
-    ap entries_of (act_parts a ts) ∙ (map-three (λ (t : Tile). (tile_of t).entry) (tiles_before a ts) (tiles_leaving a ts) (tiles_behind a ts) ∙ ap (λ l. front_entries a ts ++ l) (elim (cases_Bool (stays_behind a ts)) [
+pub entries_before_act : {C E S : Type 0} (k : Kind C E S) (a : CodeAct C) (ts : List C) → entries_in k ts ≡ front_entries k a ts ++ (old_entries k a ts ++ back_entries k a ts)
+entries_before_act k a ts =
+    ap (entries_in k) (act_parts a ts) ∙ (map-three k.entry (tiles_before a ts) (tiles_leaving a ts) (tiles_behind a ts) ∙ ap (λ l. front_entries k a ts ++ l) (elim (cases_Bool (stays_behind k a ts)) [
       | inl e ↦ rw e refl
-      | inr e ↦ rw e (sym (append-nil (entries_of (tiles_leaving a ts) ++ entries_of (tiles_behind a ts))))
+      | inr e ↦ rw e (sym (append-nil (entries_in k (tiles_leaving a ts) ++ entries_in k (tiles_behind a ts))))
     ]))
 
 -- what comes behind stays where as many bytes come as leave
-pub back_stays : (a : CodeAct Tile) (ts : List Tile) → (back_entries a ts ≡ []) ⊎ (sum (map entry_len (old_entries a ts)) ≡ sum (map entry_len (middle_entries a ts)))
-back_stays a ts = elim (cases_Bool (stays_behind a ts)) [
+pub back_stays : {C E S : Type 0} (k : Kind C E S) (a : CodeAct C) (ts : List C) → (back_entries k a ts ≡ []) ⊎ (sum (map k.len (old_entries k a ts)) ≡ sum (map k.len (middle_entries k a ts)))
+back_stays k a ts = elim (cases_Bool (stays_behind k a ts)) [
   | inr e ↦ inl (rw e refl)
-  | inl e ↦ inr (rw e (sym (eqb-true (size_of (tiles_brought a)) (size_of (tiles_leaving a ts)) e)))
+  | inl e ↦ inr (rw e (sym (eqb-true (size_of k (tiles_brought a)) (size_of k (tiles_leaving a ts)) e)))
 ]
 
 -- the numbers of an act hang on the lengths of the entries alone
-pub size_as : {X : Type 0} (b : CodeAct X) (come : List Entry) (ts : List Tile)
-    → directory_size (entries_of (tiles_before b ts) ++ (middle_of come (entries_of (tiles_leaving b ts)) (entries_of (tiles_behind b ts)) ++ back_of come (entries_of (tiles_leaving b ts)) (entries_of (tiles_behind b ts))))
-    ≡ 128 + (size_of (tiles_before b ts) + (sum (map entry_len come) + size_of (tiles_behind b ts)))
-size_as b come ts =
-    let leaving : List Entry = entries_of (tiles_leaving b ts) in
-    let behind : List Entry = entries_of (tiles_behind b ts) in
+pub size_as : {X C E S : Type 0} (k : Kind C E S) (b : CodeAct X) (come : List E) (ts : List C)
+    → size_in k (entries_in k (tiles_before b ts) ++ (middle_in k.len come (entries_in k (tiles_leaving b ts)) (entries_in k (tiles_behind b ts)) ++ back_in k.len come (entries_in k (tiles_leaving b ts)) (entries_in k (tiles_behind b ts))))
+    ≡ k.head + (size_of k (tiles_before b ts) + (sum (map k.len come) + size_of k (tiles_behind b ts)))
+size_as {E = E} k b come ts =
+    let leaving : List E = entries_in k (tiles_leaving b ts) in
+    let behind : List E = entries_in k (tiles_behind b ts) in
     omega (
       arith,
-      size_of_both (entries_of (tiles_before b ts)) (middle_of come leaving behind ++ back_of come leaving behind),
-      ap (λ l. sum (map entry_len l)) (parts_behind come leaving behind),
-      ap sum (map-append entry_len come behind),
-      sum-both (map entry_len come) (map entry_len behind),
+      size_both k (entries_in k (tiles_before b ts)) (middle_in k.len come leaving behind ++ back_in k.len come leaving behind),
+      ap (λ l. sum (map k.len l)) (parts_behind k come leaving behind),
+      ap sum (map-append k.len come behind),
+      sum-both (map k.len come) (map k.len behind),
     )
 
-pub range_as : (come leaving behind : List Entry) → sum (map entry_len (middle_of come leaving behind))
-    ≡ (if sum (map entry_len come) == sum (map entry_len leaving) then sum (map entry_len come) else sum (map entry_len come) + sum (map entry_len behind))
-range_as come leaving behind = elim (cases_Bool (as_long come leaving)) [
+pub range_as : {C E S : Type 0} (k : Kind C E S) (come leaving behind : List E) → sum (map k.len (middle_in k.len come leaving behind))
+    ≡ (if sum (map k.len come) == sum (map k.len leaving) then sum (map k.len come) else sum (map k.len come) + sum (map k.len behind))
+range_as k come leaving behind = elim (cases_Bool (as_long_in k.len come leaving)) [
   | inl e ↦ rw e refl
-  | inr e ↦ rw e (ap sum (map-append entry_len come behind) ∙ sum-both (map entry_len come) (map entry_len behind))
+  | inr e ↦ rw e (ap sum (map-append k.len come behind) ∙ sum-both (map k.len come) (map k.len behind))
 ]

@@ -3,11 +3,11 @@ use Rattle.std.proofs.Common.{◌≡◌, ℕ, ◌+◌, ◌-◌, ◌*◌, ◌≤�
 use Rattle.std.specs.List.{AllByRecursion, flat_map, list_any}
 use Rattle.std.proofs.lemmas.Bool.{cases_Bool}
 use Rattle.czi_format.specs.Layout.{Place}
-use Rattle.czi_format.specs.Span.{Span, end_of, meets, span_le, inserted, sorted}
+use Rattle.czi_format.specs.Span.{Span, end_of, meets, span_le, inserted, sorted, LiesInOne}
 use Rattle.czi_format.specs.Space.{from_to, left_of, together, without, with_next, with_freed, with_all_freed, deleted_after, same_span}
 use Rattle.czi_machine.specs.State.{spans_of}
 use Rattle.czi_machine.proofs.Leaving.{among_themselves}
-use Rattle.czi_space.specs.State.{AreExtents, LiesInOne}
+use Rattle.czi_space.specs.State.{AreExtents}
 use Rattle.czi_space.proofs.Taken.{left_apart, miss, all_apart, without_extents}
 use Rattle.czi_plan.specs.Geometry.{AreUsed}
 use Rattle.czi_plan.specs.Marks.{is_new}

@@ -17,18 +17,26 @@ use Rattle.czi_region.specs.declared.block.Region.{Region}
 use Rattle.czi_machine.proofs.Tiled.{All-both}
 use Rattle.czi_format.specs.Bytes.{i32_bytes, put_at}
 use Rattle.czi_format.specs.Contents.{directory_head}
-use Rattle.czi_plan.specs.Directory.{AreSizes, WritesEntries, directory_size, entries_of, data_in}
+use Rattle.czi_plan.specs.Directory.{WritesEntries, directory_size, entries_of, data_in}
 use Rattle.czi_plan.specs.declared.tiles.Sizes.{Sizes}
+use Rattle.czi_plan.specs.Kind.{Kind}
+use Rattle.czi_plan.specs.Listing.{AreSizes, entries_len, size_in}
 use Rattle.czi_plan.specs.Marks.{head_mark, patch_marks, pointer_mark}
 
+pub len_both : {E : Type 0} (len : E → ℕ) (es fs : List E) → sum (map len (es ++ fs)) ≡ sum (map len es) + sum (map len fs)
+len_both len es fs = ap sum (map-append len es fs) ∙ sum_by-append (λ n. n) (map len es) (map len fs)
+
 sum_both : (es fs : List Entry) → sum (map entry_len (es ++ fs)) ≡ sum (map entry_len es) + sum (map entry_len fs)
-sum_both es fs = ap sum (map-append entry_len es fs) ∙ sum_by-append (λ n. n) (map entry_len es) (map entry_len fs)
+sum_both es fs = len_both entry_len es fs
+
+pub size_both : {C E S : Type 0} (k : Kind C E S) (es fs : List E) → size_in k (es ++ fs) ≡ k.head + entries_len k es + entries_len k fs
+size_both k es fs = omega (arith, len_both k.len es fs)
 
 pub size_of_both : (es fs : List Entry) → directory_size (es ++ fs) ≡ 128 + sum (map entry_len es) + sum (map entry_len fs)
 size_of_both es fs = omega (arith, sum_both es fs)
 
-pub size_in_part : (front middle back : List Entry) → directory_size front + sum (map entry_len middle) ≤ directory_size (front ++ (middle ++ back))
-size_in_part front middle back = omega (arith, size_of_both front (middle ++ back), ap sum (map-append entry_len middle back), sum_by-append (λ n. n) (map entry_len middle) (map entry_len back))
+pub size_in_part : {C E S : Type 0} (k : Kind C E S) (front middle back : List E) → size_in k front + entries_len k middle ≤ size_in k (front ++ (middle ++ back))
+size_in_part k front middle back = omega (arith, size_both k front (middle ++ back), len_both k.len middle back)
 
 pub length-directory : length directory_id ≡ 16
 unfolding directory_id
@@ -38,34 +46,20 @@ pub entries_length : (tiles : List Tile) → length (entries_of tiles) ≡ lengt
 entries_length tiles = length-map tiles (λ (t : Tile). (tile_of t).entry)
 
 -- the sizes of three parts, summed
-pub sizes_total : (s : Sizes) (es fs gs : List Entry) → AreSizes s es fs gs → s.front + s.middle + s.back ≡ directory_size (es ++ (fs ++ gs))
-sizes_total s es fs gs are = omega (arith, sum_both es (fs ++ gs), sum_both fs gs, are.front_is, are.middle_is, are.back_is)
+pub sizes_total : {C E S : Type 0} (k : Kind C E S) (s : Sizes) (es fs gs : List E) → AreSizes k s es fs gs → s.front + s.middle + s.back ≡ size_in k (es ++ (fs ++ gs))
+sizes_total k s es fs gs are = omega (arith, size_both k es (fs ++ gs), len_both k.len fs gs, are.front_is, are.middle_is, are.back_is)
 
 -- the numbers of a patch
 pub patch_as : (old new : List Bytes) (at u u' n n' f f' : ℕ) (b b' : List ℕ) → new ≡ old ++ patch_marks at u n f b → u ≡ u' → n ≡ n' → f ≡ f' → b ≡ b' → new ≡ old ++ patch_marks at u' n' f' b'
 patch_as old new at u u' n n' f f' b b' e p q r s = e ∙ (λ i. old ++ patch_marks at (p i) (q i) (r i) (s i))
 
-pub patch_size : (es fs : List Entry) (n m : ℕ) → n ≡ 128 + sum (map entry_len es) → m ≡ sum (map entry_len fs) → n + m ≡ directory_size (es ++ fs)
-patch_size es fs n m a b = omega (arith, size_of_both es fs, a, b)
-
-pub both_length : (xs ys : List Tile) → length xs + length ys ≡ length (entries_of xs ++ entries_of ys)
-both_length xs ys = omega (arith, length-append (entries_of xs) (entries_of ys), entries_length xs, entries_length ys)
-
--- the piece that was put last
-pub last_piece : (old : List ℕ) (region : Region) (piece : Range) (data' : List ℕ) → bytes_put region ≡ old ++ data' → piece.at ≡ length old → piece.len ≡ length data' → bytes_of region piece ≡ data'
-last_piece old region piece data' put front whole =
-    ap (λ l. take piece.len (drop piece.at l)) put ∙ (ap (λ k. take piece.len (drop k (old ++ data'))) front ∙ (ap (take piece.len) (drop-append_seam old data') ∙ take_all piece.len data' (omega (arith, whole))))
-
-pub is_piece : (old : List ℕ) (region : Region) (piece : Range) (data' : List ℕ) → bytes_put region ≡ old ++ data' → piece.at ≡ length old → piece.len ≡ length data' → IsPiece region piece
-is_piece old region piece data' put front whole = omega (arith, ap length put, length-append old data', front, whole)
-
 -- the pointer and the header
-pub two_marks : (old one two : List Bytes) (at allocated used used' : ℕ) → one ≡ old ++ pointer_mark 84 at ∷ [] → two ≡ one ++ head_mark (record { at = at; id = directory_id; allocated = allocated; used = used }) ∷ [] → used ≡ used'
-    → two ≡ old ++ pointer_mark 84 at ∷ head_mark (record { at = at; id = directory_id; allocated = allocated; used = used' }) ∷ []
-two_marks old one two at allocated used used' a b same =
-    b ∙ (ap (λ l. l ++ head_mark (record { at = at; id = directory_id; allocated = allocated; used = used }) ∷ []) a
-    ∙ (append_assoc old (pointer_mark 84 at ∷ []) (head_mark (record { at = at; id = directory_id; allocated = allocated; used = used }) ∷ [])
-    ∙ ap (λ n. old ++ pointer_mark 84 at ∷ head_mark (record { at = at; id = directory_id; allocated = allocated; used = n }) ∷ []) same))
+pub two_marks : (old one two : List Bytes) (pointer at allocated : ℕ) (id : List ℕ) (used used' : ℕ) → one ≡ old ++ pointer_mark pointer at ∷ [] → two ≡ one ++ head_mark (record { at = at; id = id; allocated = allocated; used = used }) ∷ [] → used ≡ used'
+    → two ≡ old ++ pointer_mark pointer at ∷ head_mark (record { at = at; id = id; allocated = allocated; used = used' }) ∷ []
+two_marks old one two pointer at allocated id used used' a b same =
+    b ∙ (ap (λ l. l ++ head_mark (record { at = at; id = id; allocated = allocated; used = used }) ∷ []) a
+    ∙ (append_assoc old (pointer_mark pointer at ∷ []) (head_mark (record { at = at; id = id; allocated = allocated; used = used }) ∷ [])
+    ∙ ap (λ n. old ++ pointer_mark pointer at ∷ head_mark (record { at = at; id = id; allocated = allocated; used = n }) ∷ []) same))
 
 -- the list from an element on, and up to it
 pub drop_here : {X : Type 0} (xs : List X) (i : ℕ) (x : X) → i < length xs → x ≡ get_or xs i x → drop i xs ≡ x ∷ drop (i + 1) xs

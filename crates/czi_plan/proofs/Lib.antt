@@ -5,10 +5,15 @@ pub mod Order
 pub mod Touched
 pub mod Brief
 pub mod Acts
+pub mod KindLaws
 pub mod Parts
 pub mod Linking
 pub mod Changed
 pub mod Directing
+pub mod Machines
 pub mod Doing
 pub mod Needs
 pub mod Brought
+pub mod ActStages
+pub mod Attached
+pub mod Setting

@@ -9,7 +9,7 @@ use Rattle.std.proofs.lemmas.List.Sorted.{IsPermutation-map, sum_by-IsPermutatio
 use Rattle.std.proofs.lemmas.Bool.{cases_Bool, cases_lt, and_parts, leb-true}
 use Rattle.std.proofs.lemmas.List.{length-drop, length-map, length-take-le, map-append}
 use Rattle.std.proofs.lemmas.List.Elements.{All-from_recursion}
-use Rattle.czi_format.specs.Segment.{deleted_id, Segment, directory_id, header_bytes, subblock_id}
+use Rattle.czi_format.specs.Segment.{deleted_id, Segment, header_bytes}
 use Rattle.czi_format.specs.Span.{Span, span_le, sorted}
 use Rattle.czi_links.specs.Record.{Bytes, AreRising, next_place, end_of as link_end, EndWithin, encoded_len, spell_link}
 use Rattle.czi_machine.specs.Cover.{Chained, between, cover}
@@ -17,7 +17,6 @@ use Rattle.czi_spans.specs.Apart.{first_of}
 use Rattle.czi_spans.proofs.Sorting.{all_moved}
 use Rattle.czi_machine.proofs.Tiled.{All-weaken, map-All, All-both, All-filter}
 use Rattle.czi_format.specs.Bytes.{i32_bytes, i64_bytes}
-use Rattle.czi_format.specs.Entry.{Entry, IsEntry, entry_bytes, entry_len}
 use Rattle.czi_format.specs.Space.{Space, deleted_after}
 use Rattle.czi_image.specs.declared.change.DirectoryChange.{DirectoryChange}
 use Rattle.czi_image.specs.declared.change.DirectoryChange.TheVariants.{Kept, Patched, New}
@@ -34,23 +33,19 @@ use Rattle.czi_region.specs.Pieces.{IsPiece, bytes_put, bytes_of}
 use Rattle.czi_region.specs.declared.block.Piece.{Piece as Range}
 use Rattle.czi_region.specs.declared.block.Region.{Region}
 use Rattle.czi_plan.specs.Marks.{Mark, mark_of, IsSized, byte_span, ArePut, CanPut, AreInOrder, CanLink, IsMarked, deleted_mark, head_mark, is_new, patch_marks, pointer_mark, some_mark, wanted}
-use Rattle.czi_plan.proofs.Entries.{drop_here, length-directory, size_in_part}
+use Rattle.czi_plan.proofs.Entries.{drop_here, size_in_part}
+use Rattle.czi_plan.proofs.KindLaws.{Laws}
 use Rattle.czi_plan.proofs.Order.{sorted_chained, at_place}
-use Rattle.czi_plan.specs.Directory.{data_in, directory_size}
+use Rattle.czi_plan.specs.Kind.{Kind, span_in}
 use Rattle.czi_plan.specs.Geometry.{AreParts, IsLong}
-use Rattle.czi_plan.specs.Listing.{IsPlace, Lists}
+use Rattle.czi_plan.specs.Listing.{IsPlace, Lists, entries_len, size_in}
 use Rattle.czi_plan.specs.Pieces.{bytes_in, piece_of, writes_of}
 use Rattle.czi_plan.specs.declared.plan.EditPlan.{EditPlan}
 use Rattle.czi_plan.proofs.Brief.{few_marks}
 use Rattle.czi_plan.proofs.Parts.{AreFound, brought_found, directory_found, kept_of, length_after, length_by, parts_of, pointers_of, used_by, written_dir}
-use Rattle.czi_format.specs.Data.{subblock_data}
-use Rattle.czi_format.specs.Document.{Subblock}
 use Rattle.czi_format.proofs.Local.{All-append}
-use Rattle.czi_image.specs.Spans.{tile_span}
-use Rattle.czi_image.specs.View.{tile_of}
 use Rattle.czi_image.specs.declared.change.Act.{Act as CodeAct}
 use Rattle.czi_image.specs.declared.change.Act.TheVariants.{Out, Put, Into}
-use Rattle.czi_image.specs.declared.types.Tile.{Tile}
 use Rattle.czi_machine.specs.Change.{Change}
 use Rattle.czi_space.specs.State.{MapState}
 use Rattle.czi_plan.specs.Changing.{Brings, IsNew, IsStaged, all_left, back_entries, front_entries, middle_entries, new_marks, new_spans, range_after, size_after, space_behind}
@@ -119,40 +114,43 @@ pub rise_on : (ls : List Bytes) (m : Mark) (rest : List Bytes) → AreRising (li
 rise_on ls m rest rise = subst (λ n. AreRising n rest) (sym (next-append 84 ls (mark_of m))) rise
 
 -- What is written before the commit of a directory that lists other entries, and its marks.
-abbrev pub writes_by : DirectoryChange → List Entry → List Bytes
-writes_by Kept es = []
-writes_by Patched es = []
-writes_by (New d) es = record { place = d.span.at + 32; bytes = data_in (d.span.len - 32) es } ∷ []
+abbrev pub data_by : {C E S : Type 0} → Kind C E S → DirItem → List E → List ℕ
+data_by k d es = k.data_of es (d.span.len - 32 - size_in k es)
 
-abbrev pub segment_by : DirItem → List Entry → Segment
-segment_by d es = record { at = d.span.at; id = directory_id; allocated = d.span.len - 32; used = directory_size es }
+abbrev pub writes_by : {C E S : Type 0} → Kind C E S → DirectoryChange → List E → List Bytes
+writes_by k Kept es = []
+writes_by k Patched es = []
+writes_by k (New d) es = record { place = d.span.at + 32; bytes = data_by k d es } ∷ []
 
-abbrev pub marks_by : Option DirItem → DirectoryChange → (front middle back : List Entry) → List Bytes
-marks_by old Kept front middle back = []
-marks_by None Patched front middle back = []
-marks_by (Some d) Patched front middle back = patch_marks d.span.at (directory_size (front ++ (middle ++ back))) (length (front ++ (middle ++ back))) (directory_size front) (flat_map entry_bytes middle)
-marks_by old (New d) front middle back = pointer_mark 84 d.span.at ∷ head_mark (segment_by d (front ++ (middle ++ back))) ∷ []
+abbrev pub segment_by : {C E S : Type 0} → Kind C E S → DirItem → List E → Segment
+segment_by k d es = record { at = d.span.at; id = k.id; allocated = d.span.len - 32; used = size_in k es }
+
+abbrev pub marks_by : {C E S : Type 0} → Kind C E S → Option DirItem → DirectoryChange → (front middle back : List E) → List Bytes
+marks_by k old Kept front middle back = []
+marks_by k None Patched front middle back = []
+marks_by k (Some d) Patched front middle back = patch_marks d.span.at (size_in k (front ++ (middle ++ back))) (length (front ++ (middle ++ back))) (size_in k front) (flat_map k.bytes middle)
+marks_by k old (New d) front middle back = pointer_mark k.pointer d.span.at ∷ head_mark (segment_by k d (front ++ (middle ++ back))) ∷ []
 
 -- the entries that are written can be, and their bytes are as long as that
-abbrev pub AreWhole : DirectoryChange → (front middle back : List Entry) → Type 0
-AreWhole Kept front middle back = Unit {0}
-AreWhole Patched front middle back = AllByRecursion IsEntry middle × (length (flat_map entry_bytes middle) ≡ sum (map entry_len middle))
-AreWhole (New d) front middle back = AllByRecursion IsEntry (front ++ (middle ++ back)) × (length (data_in (d.span.len - 32) (front ++ (middle ++ back))) ≡ d.span.len - 32)
+abbrev pub AreWhole : {C E S : Type 0} → Kind C E S → DirectoryChange → (front middle back : List E) → Type 0
+AreWhole k Kept front middle back = Unit {0}
+AreWhole k Patched front middle back = AllByRecursion k.Is middle × (length (flat_map k.bytes middle) ≡ entries_len k middle)
+AreWhole k (New d) front middle back = AllByRecursion k.Is (front ++ (middle ++ back)) × (length (data_by k d (front ++ (middle ++ back))) ≡ d.span.len - 32)
 
 -- What a plan has of it.
-pub record Has (region : Region) (old : Option DirItem) (c : DirectoryChange) (front middle back : List Entry) (p q : EditPlan) (before after : List Bytes) : Type 0 where
-  pub marks_are : after ≡ before ++ marks_by old c front middle back
-  pub writes : bytes_in region q.writes.items ≡ bytes_in region p.writes.items ++ writes_by c (front ++ (middle ++ back))
+pub record Has {C E S : Type 0} (k : Kind C E S) (region : Region) (old : Option DirItem) (c : DirectoryChange) (front middle back : List E) (p q : EditPlan) (before after : List Bytes) : Type 0 where
+  pub marks_are : after ≡ before ++ marks_by k old c front middle back
+  pub writes : bytes_in region q.writes.items ≡ bytes_in region p.writes.items ++ writes_by k c (front ++ (middle ++ back))
   pub staged : AllByRecursion (λ (w : ℕ × Range). IsPiece region w.1) p.writes.items → AllByRecursion (λ (w : ℕ × Range). IsPiece region w.1) q.writes.items
   pub used : map span_of q.used.items ≡ map span_of p.used.items ++ used_by c
   pub length_is : q.length ≡ length_by c p.length
-  pub whole : AreWhole c front middle back
+  pub whole : AreWhole k c front middle back
   pub others : q ≡ record p { writes = q.writes; used = q.used; length = q.length }
 
 -- a plan that stays but for the marks
-has_same : (region : Region) (old : Option DirItem) (c : DirectoryChange) (front middle back : List Entry) (p q : EditPlan) (before after : List Bytes) → length_by c p.length ≡ p.length → writes_by c (front ++ (middle ++ back)) ≡ [] → used_by c ≡ [] → q ≡ p
-    → after ≡ before ++ marks_by old c front middle back → AreWhole c front middle back → Has region old c front middle back p q before after
-has_same region old c front middle back p q before after long none none' same are whole = subst (λ z. Has region old c front middle back p z before after) (sym same) (record {
+has_same : {C E S : Type 0} (k : Kind C E S) (region : Region) (old : Option DirItem) (c : DirectoryChange) (front middle back : List E) (p q : EditPlan) (before after : List Bytes) → length_by c p.length ≡ p.length → writes_by k c (front ++ (middle ++ back)) ≡ [] → used_by c ≡ [] → q ≡ p
+    → after ≡ before ++ marks_by k old c front middle back → AreWhole k c front middle back → Has k region old c front middle back p q before after
+has_same k region old c front middle back p q before after long none none' same are whole = subst (λ z. Has k region old c front middle back p z before after) (sym same) (record {
   marks_are = are;
   writes = sym (ap (λ l. bytes_in region p.writes.items ++ l) none ∙ append-nil (bytes_in region p.writes.items));
   staged = λ all. all;
@@ -166,11 +164,11 @@ has_same region old c front middle back p q before after long none none' same ar
 pub piece_length : (region : Region) (piece : Range) → IsPiece region piece → length (bytes_of region piece) ≡ piece.len
 piece_length region piece staged = length-take-le piece.len (drop piece.at (bytes_put region)) (omega (arith, staged, length-drop piece.at (bytes_put region)))
 
-pub has_listed : (region : Region) (old : Option DirItem) (c : DirectoryChange) (front middle back : List Entry) (p q : EditPlan) (before after : List Bytes) → Lists old c front middle back region p q before after → Has region old c front middle back p q before after
-has_listed region old Kept front middle back p q before after lists = has_same region old Kept front middle back p q before after refl refl refl lists.0 (lists.1 ∙ sym (append-nil before)) tt
-has_listed region None Patched front middle back p q before after lists = absurd lists
-has_listed region (Some d) Patched front middle back p q before after lists = has_same region (Some d) Patched front middle back p q before after refl refl refl lists.0 lists.1.marks (lists.1.entries, lists.1.size)
-has_listed region old (New d) front middle back p q before after lists = record {
+pub has_listed : {C E S : Type 0} (k : Kind C E S) (region : Region) (old : Option DirItem) (c : DirectoryChange) (front middle back : List E) (p q : EditPlan) (before after : List Bytes) → Lists k old c front middle back region p q before after → Has k region old c front middle back p q before after
+has_listed k region old Kept front middle back p q before after lists = has_same k region old Kept front middle back p q before after refl refl refl lists.0 (lists.1 ∙ sym (append-nil before)) tt
+has_listed k region None Patched front middle back p q before after lists = absurd lists
+has_listed k region (Some d) Patched front middle back p q before after lists = has_same k region (Some d) Patched front middle back p q before after refl refl refl lists.0 lists.1.marks (lists.1.entries, lists.1.size)
+has_listed k region old (New d) front middle back p q before after lists = record {
   marks_are = lists.marks;
   writes = ap (bytes_in region) lists.writes ∙ (map-append _ p.writes.items ((d.span.at + 32, lists.piece) ∷ []) ∙ ap (λ (b : List ℕ). bytes_in region p.writes.items ++ (let one : Bytes = record { place = d.span.at + 32; bytes = b } in one ∷ [])) lists.bytes);
   staged = λ all. subst (AllByRecursion (λ (w : ℕ × Range). IsPiece region w.1)) (sym lists.writes) (All-both (λ (w : ℕ × Range). IsPiece region w.1) p.writes.items ((d.span.at + 32, lists.piece) ∷ []) all (lists.staged, tt));
@@ -205,38 +203,9 @@ both_marks {top = top} {ws = ws} {ws' = ws'} {own = own} {own' = own'} {s = s} {
 no_marks : (top count size : ℕ) → OwnMarks top count size [] [] []
 no_marks top count size = record { covers = λ q. omega arith; ends = tt; low = tt; some = tt; few = omega arith; short = omega arith }
 
--- a new subblock: its data, and its header
-pub length-subblock : length subblock_id ≡ 16
-unfolding subblock_id
-length-subblock = refl
-
-pub tile_writes : (region : Region) (s : Subblock) (t : Tile) (writes : List (ℕ × Range)) (staged : IsStaged region s t writes) → bytes_in region writes ≡ record { place = t.span.at + 32; bytes = subblock_data (tile_of t).entry s staged.padding } ∷ []
-tile_writes region s t writes staged = ap (bytes_in region) staged.only ∙ ap (λ (b : List ℕ). let one : Bytes = record { place = t.span.at + 32; bytes = b } in one ∷ []) staged.bytes
-
-pub tile_long : (region : Region) (s : Subblock) (t : Tile) (writes : List (ℕ × Range)) (staged : IsStaged region s t writes) → length (subblock_data (tile_of t).entry s staged.padding) ≡ t.head.allocated
-tile_long region s t writes staged = omega (arith, ap (length {A = ℕ}) staged.bytes, piece_length region staged.piece staged.staged, staged.long, t.extent)
-
-tile_marks : (x : Index) (m : MapState) (region : Region) (s : Subblock) (t : Tile) (writes : List (ℕ × Range)) (top : ℕ) → IsNew x m s t → IsStaged region s t writes → IsLong top (tile_span t)
-    → OwnMarks top 1 32 (bytes_in region writes) (head_mark (tile_of t).segment ∷ []) (tile_span t ∷ [])
-tile_marks x m region s t writes top new staged long =
-    let is : length (header_bytes (tile_of t).segment) ≡ 32 = header_length (tile_of t).segment (ap (length {A = ℕ}) new.item.id ∙ length-subblock) in
-    let data' = tile_long region s t writes staged in
-    let far = long.far in
-    let within = long.ends in
-    rw (tile_writes region s t writes staged) (record {
-      covers = λ q. omega (arith, at_place, is, data', t.extent);
-      ends = (omega (arith, is, within, t.extent), tt);
-      low = (omega (arith, far), tt);
-      some = (omega (arith, is), tt);
-      few = omega arith;
-      short = omega (arith, sum_by-cons (λ (b : Bytes). length b.bytes) (head_mark (tile_of t).segment) [], is);
-    })
-
-pub brought_marks : (x : Index) (m : MapState) (region : Region) (a : CodeAct Tile) (c : Change Subblock) (writes : List (ℕ × Range)) (top : ℕ) → Brings x m region a c writes → AllByRecursion (IsLong top) (new_spans a)
-    → OwnMarks top 1 32 (bytes_in region writes) (new_marks a) (new_spans a)
-brought_marks x m region (Out i) c writes top b long = subst (λ w. OwnMarks top 1 32 (bytes_in region w) [] []) (sym b.1) (no_marks top 1 32)
-brought_marks x m region (Put i t) c writes top b long = tile_marks x m region b.0 t writes top b.2 b.3 long.0
-brought_marks x m region (Into i t) c writes top b long = tile_marks x m region b.0 t writes top b.2 b.3 long.0
+-- a new item: its data, and its header
+pub item_writes : {C E S : Type 0} {k : Kind C E S} (region : Region) (s : S) (t : C) (writes : List (ℕ × Range)) (staged : IsStaged k region s t writes) → bytes_in region writes ≡ record { place = (span_in k t).at + 32; bytes = k.contents t s staged.padding } ∷ []
+item_writes {k = k} region s t writes staged = ap (bytes_in region) staged.only ∙ ap (λ (b : List ℕ). let one : Bytes = record { place = (span_in k t).at + 32; bytes = b } in one ∷ []) staged.bytes
 
 pub some_cover : (place : ℕ) (bytes : List ℕ) (q : ℕ) → cover (map byte_span (some_mark place bytes)) q ≡ between place (place + length bytes) q
 some_cover place [] q = omega (arith, at_place)
@@ -250,50 +219,9 @@ some_size : (place : ℕ) (bytes : List ℕ) → (length (some_mark place bytes)
 some_size place [] = (omega arith, refl)
 some_size place (b ∷ bytes) = (omega arith, omega (arith, sum_by-cons (λ (c : Bytes). length c.bytes) (record { place = place; bytes = b ∷ bytes }) []))
 
--- a directory: its data, its header and the pointer to it, or what of it is changed in place
-pub dir_marks : (x : Index) (old : Option DirItem) (c : DirectoryChange) (front middle back : List Entry) (space : Space) (top : ℕ) → AllByRecursion (IsLong top) (used_by c) → AllByRecursion (IsLong top) (kept_of c old)
-    → IsPlace x old (directory_size (front ++ (middle ++ back))) (sum (map entry_len middle)) space c → AreWhole c front middle back
-    → OwnMarks top 3 131072 (writes_by c (front ++ (middle ++ back))) (marks_by old c front middle back) (pointers_of c ++ written_dir c old)
-dir_marks x old Kept front middle back space top used kept place whole = absurd place
-dir_marks x None Patched front middle back space top used kept place whole = absurd (let clash : false ≡ true = place in cc (clash))
-dir_marks x (Some d) Patched front middle back space top used kept place whole =
-    let all : List Entry = front ++ (middle ++ back) in
-    let test = and_parts (nat_le (32 + directory_size all) d.span.len) (nat_le (sum (map entry_len middle)) 65536) place in
-    let room : 32 + directory_size all ≤ d.span.len = leb-true _ _ test.0 in
-    let range : sum (map entry_len middle) ≤ 65536 = leb-true _ _ test.1 in
-    let size : directory_size front + sum (map entry_len middle) ≤ directory_size all = size_in_part front middle back in
-    let bytes : List ℕ = flat_map entry_bytes middle in
-    let at : ℕ = d.span.at + 32 + directory_size front in
-    let one : Bytes = record { place = d.span.at + 24; bytes = i64_bytes (pos (directory_size all)) } in
-    let two : Bytes = record { place = d.span.at + 32; bytes = i32_bytes (pos (length all)) } in
-    let far = kept.0.far in
-    let within = kept.0.ends in
-    record {
-      covers = λ q. omega (arith, at_place, some_cover at bytes q, whole.1, size, room);
-      ends = (omega (arith, within, size, room), (omega (arith, within, size, room), some_all (λ (b : Bytes). b.place + length b.bytes ≤ top) at bytes (λ h. omega (arith, within, size, whole.1, room))));
-      low = (omega (arith, far), (omega (arith, far), some_all (λ (b : Bytes). 84 ≤ b.place) at bytes (λ h. omega (arith, far))));
-      some = (omega arith, (omega arith, some_all (λ (b : Bytes). 1 ≤ length b.bytes) at bytes (λ h. h)));
-      few = omega (arith, (some_size at bytes).0);
-      short = omega (arith, sum_by-cons (λ (b : Bytes). length b.bytes) one (two ∷ some_mark at bytes), sum_by-cons (λ (b : Bytes). length b.bytes) two (some_mark at bytes), (some_size at bytes).1, whole.1, range);
-    }
-dir_marks x old (New d) front middle back space top used kept place whole =
-    let all : List Entry = front ++ (middle ++ back) in
-    let long : length (header_bytes (segment_by d all)) ≡ 32 = header_length (segment_by d all) length-directory in
-    let two : Bytes = head_mark (segment_by d all) in
-    let far = used.0.far in
-    let within = used.0.ends in
-    record {
-      covers = λ q. omega (arith, at_place, long, whole.1, d.long);
-      ends = (omega (arith, far, within, d.long), (omega (arith, within, long, d.long), tt));
-      low = (omega arith, (omega (arith, far), tt));
-      some = (omega arith, (omega (arith, long), tt));
-      few = omega arith;
-      short = omega (arith, sum_by-cons (λ (b : Bytes). length b.bytes) (pointer_mark 84 d.span.at) (two ∷ []), sum_by-cons (λ (b : Bytes). length b.bytes) two [], long);
-    }
-
 -- the entries of a directory after an act
-abbrev pub all_entries : CodeAct Tile → Index → List Entry
-all_entries a x = front_entries a x.tiles.items ++ (middle_entries a x.tiles.items ++ back_entries a x.tiles.items)
+abbrev pub all_entries : {C E S : Type 0} → Kind C E S → CodeAct C → Index → List E
+all_entries k a x = front_entries k a (k.items x) ++ (middle_entries k a (k.items x) ++ back_entries k a (k.items x))
 
 -- headers of DELETED segments
 pub head_long : (s : Span) → length (header_bytes (deleted_segment s)) ≡ 32
@@ -341,13 +269,14 @@ spelled [] = refl
 spelled (l ∷ ls) = omega (arith, length-append (spell_link l) (flat_map spell_link ls), length-spell_link l, spelled ls, sum_by-cons (λ (b : Bytes). length b.bytes) l ls)
 
 -- Writes and marks that lie in the pointers of the file header, in what is used, and in what is changed in place.
-pub record AreOwn (top : ℕ) (used kept : List Span) (ws own : List Bytes) : Type 0 where
+pub record AreOwn (top pointer : ℕ) (used kept : List Span) (ws own : List Bytes) : Type 0 where
+  pub high : pointer + 8 ≤ 112
   pub spans : List Span
   pub marks : OwnMarks top 4 131104 ws own spans
-  pub within : (q : ℕ) → cover spans q ≤ between 84 92 q + (cover used q + cover kept q)
+  pub within : (q : ℕ) → cover spans q ≤ between pointer (pointer + 8) q + (cover used q + cover kept q)
 
 -- the links of a plan
-module _ {n top : ℕ} {used freed dead kept es : List Span} {ws mine : List Bytes} (parts : AreParts n top used freed dead kept es) (own : AreOwn top used kept ws mine) where
+module _ {n top pointer : ℕ} {used freed dead kept es : List Span} {ws mine : List Bytes} (parts : AreParts n top used freed dead kept es) (own : AreOwn top pointer used kept ws mine) where
   abbrev news : List Span
   news = filter (is_new es) (deleted_after used freed es)
 
@@ -391,7 +320,7 @@ module _ {n top : ℕ} {used freed dead kept es : List Span} {ws mine : List Byt
       let fewer = cover-fewer (is_new es) (deleted_after used freed es) q in
       elim (cases_lt q 112) [
         | inl h ↦ omega (arith, at_place, wanted_cover mine used freed dead es q, new, gone, fewer, own.marks.covers q, own.within q, low_none top q _ parts.used_long h, low_none top q _ parts.kept_long h, low_none top q dead parts.dead_long h, low_none top q _ parts.after_long h)
-        | inr h ↦ omega (arith, at_place, wanted_cover mine used freed dead es q, new, gone, fewer, own.marks.covers q, own.within q, parts.once q)
+        | inr h ↦ omega (arith, at_place, wanted_cover mine used freed dead es q, new, gone, fewer, own.marks.covers q, own.within q, own.high, parts.once q)
       ]
 
   pub can_link : CanLink n used freed dead es mine
@@ -421,54 +350,123 @@ module _ {n top : ℕ} {used freed dead kept es : List Span} {ws mine : List Byt
   pieces_once links q are = omega (arith, ap (λ l. cover l q) (spans_are (ws ++ links)), both_cover ws links q, ap (λ l. cover l q) are.sorts, cover-sorted (map byte_span all) q, marks_once q)
 
 -- The marks of an act: those of what it brings, and those of the directory.
-pub record ActMarks (x : Index) (m : MapState) (a : CodeAct Tile) (region : Region) (d : DirectoryChange) (first mid : EditPlan) (marks : List Bytes) : Type 0 where
-  pub found : AreFound m.length m.held m.extents (new_spans a ++ used_by d)
-  pub listed : Has region x.directory d (front_entries a x.tiles.items) (middle_entries a x.tiles.items) (back_entries a x.tiles.items) first mid (new_marks a) marks
-  pub brought : OwnMarks (length_after a d m) 1 32 (writes_of region first) (new_marks a) (new_spans a)
-  pub listing : OwnMarks (length_after a d m) 3 131072 (writes_by d (all_entries a x)) (marks_by x.directory d (front_entries a x.tiles.items) (middle_entries a x.tiles.items) (back_entries a x.tiles.items)) (pointers_of d ++ written_dir d x.directory)
-  pub parts : AreParts m.length (length_after a d m) (new_spans a ++ used_by d) (sorted span_le (usable_of (all_left a d x))) (dead_of (all_left a d x)) (kept_of d x.directory) m.extents
-  pub own : AreOwn (length_after a d m) (new_spans a ++ used_by d) (kept_of d x.directory) (writes_of region first ++ writes_by d (all_entries a x)) marks
+pub record ActMarks {C E S : Type 0} (k : Kind C E S) (x : Index) (m : MapState) (a : CodeAct C) (region : Region) (d : DirectoryChange) (first mid : EditPlan) (marks : List Bytes) : Type 0 where
+  pub found : AreFound m.length m.held m.extents (new_spans k a ++ used_by d)
+  pub listed : Has k region (k.directory x) d (front_entries k a (k.items x)) (middle_entries k a (k.items x)) (back_entries k a (k.items x)) first mid (new_marks k a) marks
+  pub brought : OwnMarks (length_after k a d m) 1 32 (writes_of region first) (new_marks k a) (new_spans k a)
+  pub listing : OwnMarks (length_after k a d m) 3 131072 (writes_by k d (all_entries k a x)) (marks_by k (k.directory x) d (front_entries k a (k.items x)) (middle_entries k a (k.items x)) (back_entries k a (k.items x))) (pointers_of k.pointer d ++ written_dir d (k.directory x))
+  pub parts : AreParts m.length (length_after k a d m) (new_spans k a ++ used_by d) (sorted span_le (usable_of (all_left k a d x))) (dead_of (all_left k a d x)) (kept_of d (k.directory x)) m.extents
+  pub own : AreOwn (length_after k a d m) k.pointer (new_spans k a ++ used_by d) (kept_of d (k.directory x)) (writes_of region first ++ writes_by k d (all_entries k a x)) marks
 
-own_within : (u : List Span) (c : DirectoryChange) (old : Option DirItem) (q : ℕ) → cover (u ++ (pointers_of c ++ written_dir c old)) q ≤ between 84 92 q + (cover (u ++ used_by c) q + cover (kept_of c old) q)
-own_within u c old q = omega (arith, cover-append u (pointers_of c ++ written_dir c old) q, cover-append u (used_by c) q, by c)
-  where
-    by : (c : DirectoryChange) → cover (pointers_of c ++ written_dir c old) q ≤ between 84 92 q + (cover (used_by c) q + cover (kept_of c old) q)
-    by Kept = omega arith
-    by Patched = omega arith
-    by (New d) = omega arith
+-- What is written of an act on either list, and its marks.
+module _ {C E S : Type 0} {k : Kind C E S} (L : Laws k) where
+  pub item_long : (region : Region) (s : S) (t : C) (writes : List (ℕ × Range)) (staged : IsStaged k region s t writes) → length (k.contents t s staged.padding) ≡ (k.segment t).allocated
+  item_long region s t writes staged = omega (arith, ap (length {A = ℕ}) staged.bytes, piece_length region staged.piece staged.staged, staged.long, L.extent t)
 
-pub act_marks : (x : Index) (m : MapState) (a : CodeAct Tile) (c : Change Subblock) (region : Region) (d : DirectoryChange) (first mid : EditPlan) (marks : List Bytes) → IsMapOf x m → Brings x m region a c first.writes.items
-    → IsPlace x x.directory (size_after a x) (range_after a x) (space_behind a m) d → Lists x.directory d (front_entries a x.tiles.items) (middle_entries a x.tiles.items) (back_entries a x.tiles.items) region first mid (new_marks a) marks
-    → ActMarks x m a region d first mid marks
-act_marks x m a c region d first mid marks is brings place lists =
-    let top : ℕ = length_after a d m in
-    let front : List Entry = front_entries a x.tiles.items in
-    let middle : List Entry = middle_entries a x.tiles.items in
-    let back : List Entry = back_entries a x.tiles.items in
-    let found = directory_found x m x.directory (size_after a x) (range_after a x) (new_spans a) d is (brought_found x m region a c first.writes.items is brings) place in
-    let has = has_listed region x.directory d front middle back first mid (new_marks a) marks lists in
-    let parts = parts_of x m a d is found in
-    let long = All-append (IsLong top) (new_spans a) (used_by d) parts.used_long in
-    let brought = brought_marks x m region a c first.writes.items top brings long.0 in
-    let listing = dir_marks x x.directory d front middle back (space_behind a m) top long.1 parts.kept_long place has.whole in
-    record {
-      found = found;
-      listed = has;
-      brought = brought;
-      listing = listing;
-      parts = parts;
-      own = record {
-        spans = new_spans a ++ (pointers_of d ++ written_dir d x.directory);
-        marks = subst (λ l. OwnMarks top 4 131104 (writes_of region first ++ writes_by d (all_entries a x)) l (new_spans a ++ (pointers_of d ++ written_dir d x.directory))) (sym has.marks_are) (both_marks brought listing);
-        within = own_within (new_spans a) d x.directory;
-      };
-    }
+  item_marks : (x : Index) (m : MapState) (region : Region) (s : S) (t : C) (writes : List (ℕ × Range)) (top : ℕ) → IsNew k x m s t → IsStaged k region s t writes → IsLong top (span_in k t)
+      → OwnMarks top 1 32 (bytes_in region writes) (head_mark (k.segment t) ∷ []) (span_in k t ∷ [])
+  item_marks x m region s t writes top new staged long =
+      let is : length (header_bytes (k.segment t)) ≡ 32 = header_length (k.segment t) (L.item_id t s new.item) in
+      let data' = item_long region s t writes staged in
+      let far = long.far in
+      let within = long.ends in
+      rw (item_writes region s t writes staged) (record {
+        covers = λ q. omega (arith, at_place, is, data', L.extent t, L.at t);
+        ends = (omega (arith, is, within, L.extent t, L.at t), tt);
+        low = (omega (arith, far, L.at t), tt);
+        some = (omega (arith, is), tt);
+        few = omega arith;
+        short = omega (arith, sum_by-cons (λ (b : Bytes). length b.bytes) (head_mark (k.segment t)) [], is);
+      })
 
--- So the links of an act can be put.
-pub act_links : (x : Index) (m : MapState) (a : CodeAct Tile) (c : Change Subblock) (region : Region) (d : DirectoryChange) (first mid : EditPlan) (marks : List Bytes) → IsMapOf x m → Brings x m region a c first.writes.items
-    → map span_of first.used.items ≡ new_spans a → IsPlace x x.directory (size_after a x) (range_after a x) (space_behind a m) d
-    → Lists x.directory d (front_entries a x.tiles.items) (middle_entries a x.tiles.items) (back_entries a x.tiles.items) region first mid (new_marks a) marks
-    → CanLink m.length (map span_of mid.used.items) (sorted span_le (usable_of (all_left a d x))) (dead_of (all_left a d x)) m.extents marks
-act_links x m a c region d first mid marks is brings used place lists =
-    let has = act_marks x m a c region d first mid marks is brings place lists in
-    rw (has.listed.used ∙ ap (λ l. l ++ used_by d) used) (can_link has.parts has.own)
+  pub brought_marks : (x : Index) (m : MapState) (region : Region) (a : CodeAct C) (c : Change S) (writes : List (ℕ × Range)) (top : ℕ) → Brings k x m region a c writes → AllByRecursion (IsLong top) (new_spans k a)
+      → OwnMarks top 1 32 (bytes_in region writes) (new_marks k a) (new_spans k a)
+  brought_marks x m region (Out i) c writes top b long = subst (λ w. OwnMarks top 1 32 (bytes_in region w) [] []) (sym b.1) (no_marks top 1 32)
+  brought_marks x m region (Put i t) c writes top b long = item_marks x m region b.0 t writes top b.2 b.3 long.0
+  brought_marks x m region (Into i t) c writes top b long = item_marks x m region b.0 t writes top b.2 b.3 long.0
+
+  -- a directory: its data, its header and the pointer to it, or what of it is changed in place
+  pub dir_marks : (x : Index) (old : Option DirItem) (c : DirectoryChange) (front middle back : List E) (space : Space) (top : ℕ) → AllByRecursion (IsLong top) (used_by c) → AllByRecursion (IsLong top) (kept_of c old)
+      → IsPlace x old (size_in k (front ++ (middle ++ back))) (entries_len k middle) space c → AreWhole k c front middle back
+      → OwnMarks top 3 131072 (writes_by k c (front ++ (middle ++ back))) (marks_by k old c front middle back) (pointers_of k.pointer c ++ written_dir c old)
+  dir_marks x old Kept front middle back space top used kept place whole = absurd place
+  dir_marks x None Patched front middle back space top used kept place whole = absurd (let clash : false ≡ true = place in cc (clash))
+  dir_marks x (Some d) Patched front middle back space top used kept place whole =
+      let all : List E = front ++ (middle ++ back) in
+      let test = and_parts (nat_le (32 + size_in k all) d.span.len) (nat_le (entries_len k middle) 65536) place in
+      let room : 32 + size_in k all ≤ d.span.len = leb-true _ _ test.0 in
+      let range : entries_len k middle ≤ 65536 = leb-true _ _ test.1 in
+      let size : size_in k front + entries_len k middle ≤ size_in k all = size_in_part k front middle back in
+      let bytes : List ℕ = flat_map k.bytes middle in
+      let at : ℕ = d.span.at + 32 + size_in k front in
+      let one : Bytes = record { place = d.span.at + 24; bytes = i64_bytes (pos (size_in k all)) } in
+      let two : Bytes = record { place = d.span.at + 32; bytes = i32_bytes (pos (length all)) } in
+      let far = kept.0.far in
+      let within = kept.0.ends in
+      record {
+        covers = λ q. omega (arith, at_place, L.count, some_cover at bytes q, whole.1, size, room);
+        ends = (omega (arith, L.count, within, size, room), (omega (arith, L.count, within, size, room), some_all (λ (b : Bytes). b.place + length b.bytes ≤ top) at bytes (λ h. omega (arith, within, size, whole.1, room))));
+        low = (omega (arith, far), (omega (arith, far), some_all (λ (b : Bytes). 84 ≤ b.place) at bytes (λ h. omega (arith, far))));
+        some = (omega arith, (omega arith, some_all (λ (b : Bytes). 1 ≤ length b.bytes) at bytes (λ h. h)));
+        few = omega (arith, (some_size at bytes).0);
+        short = omega (arith, sum_by-cons (λ (b : Bytes). length b.bytes) one (two ∷ some_mark at bytes), sum_by-cons (λ (b : Bytes). length b.bytes) two (some_mark at bytes), (some_size at bytes).1, whole.1, range);
+      }
+  dir_marks x old (New d) front middle back space top used kept place whole =
+      let all : List E = front ++ (middle ++ back) in
+      let long : length (header_bytes (segment_by k d all)) ≡ 32 = header_length (segment_by k d all) L.id in
+      let two : Bytes = head_mark (segment_by k d all) in
+      let far = used.0.far in
+      let within = used.0.ends in
+      record {
+        covers = λ q. omega (arith, at_place, long, whole.1, d.long);
+        ends = (omega (arith, L.high, far, within, d.long), (omega (arith, within, long, d.long), tt));
+        low = (omega (arith, L.low), (omega (arith, far), tt));
+        some = (omega arith, (omega (arith, long), tt));
+        few = omega arith;
+        short = omega (arith, sum_by-cons (λ (b : Bytes). length b.bytes) (pointer_mark k.pointer d.span.at) (two ∷ []), sum_by-cons (λ (b : Bytes). length b.bytes) two [], long);
+      }
+
+  own_within : (u : List Span) (c : DirectoryChange) (old : Option DirItem) (q : ℕ) → cover (u ++ (pointers_of k.pointer c ++ written_dir c old)) q ≤ between k.pointer (k.pointer + 8) q + (cover (u ++ used_by c) q + cover (kept_of c old) q)
+  own_within u c old q = omega (arith, cover-append u (pointers_of k.pointer c ++ written_dir c old) q, cover-append u (used_by c) q, by c)
+    where
+      by : (c : DirectoryChange) → cover (pointers_of k.pointer c ++ written_dir c old) q ≤ between k.pointer (k.pointer + 8) q + (cover (used_by c) q + cover (kept_of c old) q)
+      by Kept = omega arith
+      by Patched = omega arith
+      by (New d) = omega arith
+
+  pub act_marks : (x : Index) (m : MapState) (a : CodeAct C) (c : Change S) (region : Region) (d : DirectoryChange) (first mid : EditPlan) (marks : List Bytes) → IsMapOf x m → Brings k x m region a c first.writes.items
+      → IsPlace x (k.directory x) (size_after k a x) (range_after k a x) (space_behind k a m) d → Lists k (k.directory x) d (front_entries k a (k.items x)) (middle_entries k a (k.items x)) (back_entries k a (k.items x)) region first mid (new_marks k a) marks
+      → ActMarks k x m a region d first mid marks
+  act_marks x m a c region d first mid marks is brings place lists =
+      let top : ℕ = length_after k a d m in
+      let front : List E = front_entries k a (k.items x) in
+      let middle : List E = middle_entries k a (k.items x) in
+      let back : List E = back_entries k a (k.items x) in
+      let found = directory_found x m (k.directory x) (size_after k a x) (range_after k a x) (new_spans k a) d is (brought_found L x m region a c first.writes.items is brings) place in
+      let has = has_listed k region (k.directory x) d front middle back first mid (new_marks k a) marks lists in
+      let parts = parts_of L x m a d is found in
+      let long = All-append (IsLong top) (new_spans k a) (used_by d) parts.used_long in
+      let brought = brought_marks x m region a c first.writes.items top brings long.0 in
+      let listing = dir_marks x (k.directory x) d front middle back (space_behind k a m) top long.1 parts.kept_long place has.whole in
+      record {
+        found = found;
+        listed = has;
+        brought = brought;
+        listing = listing;
+        parts = parts;
+        own = record {
+          high = L.high;
+          spans = new_spans k a ++ (pointers_of k.pointer d ++ written_dir d (k.directory x));
+          marks = subst (λ l. OwnMarks top 4 131104 (writes_of region first ++ writes_by k d (all_entries k a x)) l (new_spans k a ++ (pointers_of k.pointer d ++ written_dir d (k.directory x)))) (sym has.marks_are) (both_marks brought listing);
+          within = own_within (new_spans k a) d (k.directory x);
+        };
+      }
+
+  -- So the links of an act can be put.
+  pub act_links : (x : Index) (m : MapState) (a : CodeAct C) (c : Change S) (region : Region) (d : DirectoryChange) (first mid : EditPlan) (marks : List Bytes) → IsMapOf x m → Brings k x m region a c first.writes.items
+      → map span_of first.used.items ≡ new_spans k a → IsPlace x (k.directory x) (size_after k a x) (range_after k a x) (space_behind k a m) d
+      → Lists k (k.directory x) d (front_entries k a (k.items x)) (middle_entries k a (k.items x)) (back_entries k a (k.items x)) region first mid (new_marks k a) marks
+      → CanLink m.length (map span_of mid.used.items) (sorted span_le (usable_of (all_left k a d x))) (dead_of (all_left k a d x)) m.extents marks
+  act_links x m a c region d first mid marks is brings used place lists =
+      let has = act_marks x m a c region d first mid marks is brings place lists in
+      rw (has.listed.used ∙ ap (λ l. l ++ used_by d) used) (can_link has.parts has.own)

@@ -4,16 +4,16 @@ use Rattle.std.specs.List.{AllByRecursion, find, flat_map, list_any}
 use Rattle.std.proofs.lemmas.Bool.{cases_Bool, cases_lt, ltb-true, lt-ltb, le-ltb, leb-true, ltb-false}
 use Rattle.std.proofs.lemmas.List.{map-append, length-map, length-take}
 use Rattle.std.proofs.lemmas.List.Elements.{filter-append}
-use Rattle.czi_format.specs.Span.{Span, end_of, meets, round32, is_aligned, AreDisjoint, span_le, sorted}
+use Rattle.czi_format.specs.Span.{Span, end_of, meets, round32, is_aligned, AreDisjoint, span_le, sorted, IsWhole, LiesInOne}
 use Rattle.czi_format.specs.Space.{Space, Full, from_to, left_of, without, place_for, place_in, place_past, use_all, free_runs, Fit, fit, use_span, with_freed, deleted_after}
-use Rattle.czi_space.specs.State.{AreExtents, LiesInOne, IsWhole as IsWholeExtent, MeetsNone, MapState, space_of}
+use Rattle.czi_space.specs.State.{AreExtents, MeetsNone, MapState, space_of}
 use Rattle.czi_space.proofs.Found.{runs-use_all}
 use Rattle.czi_machine.proofs.Tiled.{All-both, All-weaken, map-All, All-filter, All-map}
 use Rattle.czi_format.specs.Layout.{Place}
 use Rattle.czi_format.proofs.Rules.{on_ok}
-use Rattle.czi_machine.specs.Cover.{between, cover, IsWhole}
+use Rattle.czi_machine.specs.Cover.{between, cover}
 use Rattle.czi_machine.specs.Holes.{holes, interior}
-use Rattle.czi_machine.specs.Places.{can_be_used, subblock_need}
+use Rattle.czi_machine.specs.Places.{can_be_used}
 use Rattle.czi_machine.specs.State.{spans_of}
 use Rattle.czi_machine.proofs.Cover.{without_in, without_out, without_none, cover-sorted, cover-with_freed, cover-deleted_after, cover-append}
 use Rattle.czi_machine.proofs.Keeps.{aligned_whole, without_whole, deleted_after_whole}
@@ -22,13 +22,11 @@ use Rattle.czi_machine.proofs.Placing.{without_fewer, covers_own, freed_whole, i
 use Rattle.czi_spans.specs.Apart.{AreApart}
 use Rattle.czi_spans.proofs.Sorting.{all_sorted}
 use Rattle.czi_machine.proofs.Steady.{disjoint_few}
-use Rattle.czi_image.specs.Holds.{tile_place}
-use Rattle.czi_image.specs.Spans.{header_span, directory_span, tile_span, att_item_span, meta_item_span, live_spans}
+use Rattle.czi_image.specs.Spans.{header_span, directory_span}
 use Rattle.czi_image.specs.declared.change.DirectoryChange.{DirectoryChange}
 use Rattle.czi_image.specs.declared.change.DirectoryChange.TheVariants.{Kept, Patched, New}
 use Rattle.czi_image.specs.declared.index.Index.{Index}
 use Rattle.czi_image.specs.declared.types.DirItem.{DirItem}
-use Rattle.czi_image.specs.declared.types.Tile.{Tile}
 use Rattle.czi_num.specs.Span.{span_of}
 use Rattle.czi_num.specs.declared.span.Span.{Span as CodeSpan}
 use Rattle.czi_format.proofs.Local.{All-append}
@@ -43,12 +41,13 @@ use Rattle.czi_machine.proofs.InOne.{in_without}
 use Rattle.czi_machine.proofs.Clear.{map-map}
 use Rattle.czi_image.specs.declared.change.Act.{Act as CodeAct}
 use Rattle.czi_image.specs.declared.change.Act.TheVariants.{Out, Put, Into}
-use Rattle.czi_format.specs.Document.{Subblock}
 use Rattle.czi_machine.specs.Change.{Change}
 use Rattle.czi_region.specs.declared.block.Region.{Region}
 use Rattle.czi_region.specs.declared.block.Piece.{Piece as Range}
 use Rattle.czi_plan.specs.Changing.{Brings, IsNew, all_left, items_left, new_spans, space_behind, tiles_before, tiles_behind, tiles_brought, tiles_leaving}
+use Rattle.czi_plan.specs.Kind.{Kind, span_in}
 use Rattle.czi_plan.proofs.Acts.{act_parts, map-three}
+use Rattle.czi_plan.proofs.KindLaws.{Laws, live_of}
 
 -- a part of a span that lies in one of the extents
 pub lies_sub : (r x : Span) (es : List Span) → x.at ≤ r.at → end_of r ≤ end_of x → LiesInOne x es → LiesInOne r es
@@ -139,20 +138,14 @@ placed_ends n need at held used es rise small e = elim (placed _ need at e) [
       omega (arith, in_one_ends 0 n es run rise found.0, found.1, is, small)
 ]
 
-pub to_whole : (s : Span) → IsWholeExtent s → IsWhole s
-to_whole s w = record { at = w.at; len = w.len; some = w.some }
-
-pub from_whole : (s : Span) → IsWhole s → IsWholeExtent s
-from_whole s w = record { at = w.at; len = w.len; some = w.some }
-
 pub extents_whole : (from to : ℕ) (es : List Span) → AreExtents from to es → AllByRecursion IsWhole es
 extents_whole from to [] e = tt
-extents_whole from to (s ∷ rest) e = (to_whole s e.1, extents_whole (end_of s) to rest e.2)
+extents_whole from to (s ∷ rest) e = (e.1, extents_whole (end_of s) to rest e.2)
 
 -- the free extents of an index
 pub free_extents : (from n : ℕ) (es : List Span) → from ≤ n → AreApart from es → AllByRecursion (λ s. is_aligned s ≡ true) es → AllByRecursion (λ s. end_of s ≤ n) es → AreExtents from n es
 free_extents from n [] low apart aligned inside = low
-free_extents from n (s ∷ rest) low apart aligned inside = (apart.0, from_whole s (aligned_whole s aligned.0 apart.1), free_extents (end_of s) n rest inside.0 apart.2 aligned.1 inside.1)
+free_extents from n (s ∷ rest) low apart aligned inside = (apart.0, aligned_whole s aligned.0 apart.1, free_extents (end_of s) n rest inside.0 apart.2 aligned.1 inside.1)
 
 -- no place lies twice in spans that don't meet
 none_in : (x : Span) (ys : List Span) (p : ℕ) → AllByRecursion (λ t. meets x t ≡ false) ys → x.at ≤ p → p < end_of x → cover ys p ≡ 0
@@ -290,7 +283,7 @@ meets_none s (e ∷ es) once = (
 are_freed : (n : ℕ) (spans es : List Span) → AllByRecursion IsWhole spans → AllByRecursion (λ (s : Span). end_of s ≤ n) spans → ((p : ℕ) → cover spans p + cover es p ≤ 1) → AreFreed n spans es
 are_freed n [] es whole ends once = tt
 are_freed n (s ∷ spans) es whole ends once =
-    (from_whole s whole.0, meets_none s es (λ p. omega (arith, once p)), ends.0, are_freed n spans (with_freed s es) whole.1 ends.1 (λ p. omega (arith, once p, cover-with_freed s es p)))
+    (whole.0, meets_none s es (λ p. omega (arith, once p)), ends.0, are_freed n spans (with_freed s es) whole.1 ends.1 (λ p. omega (arith, once p, cover-with_freed s es p)))
 
 ends_all : (n : ℕ) (xs : List Span) → AllByRecursion (λ (s : Span). 0 < s.len) xs → ((p : ℕ) → n ≤ p → cover xs p ≡ 0) → AllByRecursion (λ (s : Span). end_of s ≤ n) xs
 ends_all n [] some none = tt
@@ -351,7 +344,7 @@ all_used n (s ∷ used) es whole lie once =
     let still : AllByRecursion (LiesOrPast n (without (s ∷ []) es)) used
     = All-weaken (λ t. IsWhole t × LiesOrPast n es t × ((q : ℕ) → between t.at (end_of t) q ≤ cover used q)) (LiesOrPast n (without (s ∷ []) es))
     (λ t h. elim h.1 [ inl i ↦ inl (in_without t (s ∷ []) es h.0.some i (λ q k. omega (arith, k, h.2 q, once q))) | inr p ↦ inr p ]) used avoid in
-    (from_whole s whole.0, lie.0, all_used n used (without (s ∷ []) es) whole.1 still (λ q. omega (arith, once q)))
+    (whole.0, lie.0, all_used n used (without (s ∷ []) es) whole.1 still (λ q. omega (arith, once q)))
 
 all_below : (n p : ℕ) (used es : List Span) → AllByRecursion (LiesOrPast n es) used → p < n → 1 ≤ cover used p → 1 ≤ cover es p
 all_below n p [] es lie h some = absurd (omega (arith, some))
@@ -369,7 +362,7 @@ pub record AreTaken (n top : ℕ) (es used : List Span) : Type 0 where
   pub apart : (p : ℕ) → cover used p + cover (without used es) p ≤ 1
   pub below : (p : ℕ) → p < n → cover used p ≤ cover es p
 
-found_taken : (n top : ℕ) (held es used : List Span) → ((p : ℕ) → cover es p ≤ 1) → AreFound n held es used → AllByRecursion (λ (s : Span). 32 ≤ s.len) used → AllByRecursion (λ (s : Span). end_of s ≤ top) used → AreTaken n top es used
+pub found_taken : (n top : ℕ) (held es used : List Span) → ((p : ℕ) → cover es p ≤ 1) → AreFound n held es used → AllByRecursion (λ (s : Span). 32 ≤ s.len) used → AllByRecursion (λ (s : Span). end_of s ≤ top) used → AreTaken n top es used
 found_taken n top held es used once all long ends =
     let whole : AllByRecursion IsWhole used = All-weaken (IsUsed n held es) IsWhole (λ s u. u.whole) used all.each in
     let lie : AllByRecursion (LiesOrPast n es) used = All-weaken (IsUsed n held es) (LiesOrPast n es) (λ s u. u.lies) used all.each in
@@ -429,9 +422,6 @@ pub map_extents : (x : Index) (m : MapState) → IsMapOf x m → AreExtents 0 m.
 map_extents x m is =
     subst (AreExtents 0 m.length) is.extents (subst (λ n. AreExtents 0 n (map span_of x.extents.items)) is.length (free_extents 0 x.length (map span_of x.extents.items) (omega arith) x.free.apart x.free.aligned x.free.inside))
 
-abbrev pub live_of : Index → List Span
-live_of x = live_spans x.header x.directory x.tiles.items x.attdir x.attachments.items x.metadata
-
 pub live_once : (x : Index) (m : MapState) (p : ℕ) → IsMapOf x m → cover (live_of x) p + cover m.extents p ≤ 1
 live_once x m p is = omega (arith, free_once (live_of x) 0 (map span_of x.extents.items) p x.disjoint x.free.apart x.free.clear, ap (λ l. cover l p) is.extents)
 
@@ -463,53 +453,12 @@ pub each_of : {X : Type 0} (P : X → Type 0) → ((x : X) → P x) → (xs : Li
 each_of P f [] = tt
 each_of P f (x ∷ xs) = (f x, each_of P f xs)
 
-pub tile_spans : (ts : List Tile) → spans_of (map tile_place ts) ≡ map tile_span ts
-tile_spans ts = map-map tile_place (λ (p : Place). p.span) ts
+-- the spans of the items before an act, of those that leave, and of those behind
+pub act_spans : {X C : Type 0} (f : C → Span) (a : CodeAct X) (ts : List C) → map f ts ≡ map f (tiles_before a ts) ++ (map f (tiles_leaving a ts) ++ map f (tiles_behind a ts))
+act_spans f a ts = ap (map f) (act_parts a ts) ∙ map-three f (tiles_before a ts) (tiles_leaving a ts) (tiles_behind a ts)
 
--- the spans of the subblocks before an act, of those that leave, and of those behind
-pub act_spans : {X : Type 0} (a : CodeAct X) (ts : List Tile) → map tile_span ts ≡ map tile_span (tiles_before a ts) ++ (map tile_span (tiles_leaving a ts) ++ map tile_span (tiles_behind a ts))
-act_spans a ts = ap (map tile_span) (act_parts a ts) ∙ map-three tile_span (tiles_before a ts) (tiles_leaving a ts) (tiles_behind a ts)
-
-pub left_cover : (a : CodeAct Tile) (d : DirectoryChange) (x : Index) (q : ℕ) → cover (spans_of (all_left a d x)) q ≡ cover (map tile_span (tiles_leaving a x.tiles.items)) q + cover (spans_of (left_directory d x.directory)) q
-left_cover a d x q = omega (
-  arith,
-  ap (λ l. cover l q) (map-append (λ (p : Place). p.span) (items_left a x) (left_directory d x.directory)),
-  cover-append (spans_of (items_left a x)) (spans_of (left_directory d x.directory)) q,
-  ap (λ l. cover l q) (tile_spans (tiles_leaving a x.tiles.items)),
-)
-
-are_gone : (x : Index) (m : MapState) (a : CodeAct Tile) (d : DirectoryChange) → IsMapOf x m → AreGone m.length (header_span x.header) (all_left a d x) (kept_of d x.directory) m.extents
-are_gone x m a d is =
-    let D : List Span = option_to_list (option_map directory_span x.directory) in
-    let T : List Span = map tile_span x.tiles.items in
-    let L : List Tile = tiles_leaving a x.tiles.items in
-    let P : Span → Type 0 = λ s. end_of s ≤ m.length in
-    let R : List Span = option_to_list (option_map directory_span x.attdir) ++ (map att_item_span x.attachments.items ++ option_to_list (option_map meta_item_span x.metadata)) in
-    let live : AllByRecursion P (live_of x) = subst (λ n. AllByRecursion (λ (s : Span). end_of s ≤ n) (live_of x)) is.length x.inside in
-    let behind = All-append P D (T ++ R) live.1 in
-    let tiles = All-append P (map tile_span (tiles_before a x.tiles.items)) _ (subst (AllByRecursion P) (act_spans a x.tiles.items) (All-append P T R behind.1).0) in
-    let leaving : AllByRecursion P (map tile_span L) = (All-append P (map tile_span L) _ tiles.1).0 in
-    record {
-      front = refl;
-      header = omega (arith, x.headed);
-      inside = live.0;
-      rise = map_extents x m is;
-      long = All-both (λ (p : Place). 32 ≤ p.span.len) (items_left a x) (left_directory d x.directory) (map-All tile_place (λ (p : Place). 32 ≤ p.span.len) L (each_of _ (λ t. omega (arith, t.extent)) L)) (of_both (λ t. 32 ≤ t.len) d x.directory (own_long x.directory)).0;
-      ends = All-both (λ (p : Place). end_of p.span ≤ m.length) (items_left a x) (left_directory d x.directory) (map-All tile_place (λ (p : Place). end_of p.span ≤ m.length) L (All-map tile_span P L leaving)) (of_both P d x.directory behind.0).0;
-      kept_long = (of_both (λ t. 32 ≤ t.len) d x.directory (own_long x.directory)).1;
-      kept_ends = (of_both P d x.directory behind.0).1;
-      once = λ p. omega (
-        arith,
-        live_once x m p is,
-        left_cover a d x p,
-        one_of_both d x.directory p,
-        cover-append D (T ++ R) p,
-        cover-append T R p,
-        ap (λ l. cover l p) (act_spans a x.tiles.items),
-        cover-append (map tile_span (tiles_before a x.tiles.items)) (map tile_span L ++ map tile_span (tiles_behind a x.tiles.items)) p,
-        cover-append (map tile_span L) (map tile_span (tiles_behind a x.tiles.items)) p,
-      );
-    }
+pub place_spans : {C : Type 0} (f : C → Place) (ts : List C) → spans_of (map f ts) ≡ map (λ t. (f t).span) ts
+place_spans f ts = map-map f (λ (p : Place). p.span) ts
 
 -- what is used, and the length then
 abbrev pub used_by : DirectoryChange → List Span
@@ -518,10 +467,10 @@ used_by Patched = []
 used_by (New d) = directory_span d ∷ []
 
 -- the pointer that is written, and the extent that is written into
-abbrev pub pointers_of : DirectoryChange → List Span
-pointers_of Kept = []
-pointers_of Patched = []
-pointers_of (New d) = record { at = 84; len = 8 } ∷ []
+abbrev pub pointers_of : ℕ → DirectoryChange → List Span
+pointers_of pointer Kept = []
+pointers_of pointer Patched = []
+pointers_of pointer (New d) = record { at = pointer; len = 8 } ∷ []
 
 abbrev pub written_dir : DirectoryChange → Option DirItem → List Span
 written_dir Kept old = []
@@ -537,19 +486,10 @@ extents_once : (x : Index) (m : MapState) (p : ℕ) → IsMapOf x m → cover m.
 extents_once x m p is = omega (arith, live_once x m p is)
 
 -- a need of a map, once other spans were used
-found_in : (x : Index) (m : MapState) (need : ℕ) (used : List Span) (s : Span) → IsMapOf x m → AreFound m.length m.held m.extents used → need % 32 ≡ 0 → 0 < need
+pub found_in : (x : Index) (m : MapState) (need : ℕ) (used : List Span) (s : Span) → IsMapOf x m → AreFound m.length m.held m.extents used → need % 32 ≡ 0 → 0 < need
     → fit (use_all (space_of m) used) need ≡ Ok (record { span = s; space = use_span (use_all (space_of m) used) s }) → IsFound m.length m.held m.extents used (use_all (space_of m) used).length s
 found_in x m need used s is all even some fits =
-    found m.length need m.held m.extents used s (map_extents x m is) (All-weaken IsWholeExtent IsWhole to_whole m.held is.held) (All-weaken (IsUsed m.length m.held m.extents) IsWhole (λ t u. u.whole) used all.each) even some fits
-
--- a new subblock
-pub tile_found : (x : Index) (m : MapState) (s : Subblock) (t : Tile) → IsMapOf x m → IsNew x m s t → IsFound m.length m.held m.extents [] m.length (tile_span t)
-tile_found x m s t is new = found_in x m (subblock_need s) [] (tile_span t) is (none_found m.length m.held m.extents) (omega arith) (omega arith) new.fits
-
-pub brought_found : (x : Index) (m : MapState) (region : Region) (a : CodeAct Tile) (c : Change Subblock) (writes : List (ℕ × Range)) → IsMapOf x m → Brings x m region a c writes → AreFound m.length m.held m.extents (new_spans a)
-brought_found x m region (Out i) c writes is b = none_found m.length m.held m.extents
-brought_found x m region (Put i t) c writes is b = found_more m.length m.held m.extents [] m.length (tile_span t) (none_found m.length m.held m.extents) (tile_found x m b.0 t is b.2)
-brought_found x m region (Into i t) c writes is b = found_more m.length m.held m.extents [] m.length (tile_span t) (none_found m.length m.held m.extents) (tile_found x m b.0 t is b.2)
+    found m.length need m.held m.extents used s (map_extents x m is) is.held (All-weaken (IsUsed m.length m.held m.extents) IsWhole (λ t u. u.whole) used all.each) even some fits
 
 -- and a new directory behind it
 pub new_found : (x : Index) (m : MapState) (size : ℕ) (used : List Span) (d : DirItem) → IsMapOf x m → AreFound m.length m.held m.extents used
@@ -562,98 +502,150 @@ directory_found x m old size range used Kept is all place = absurd place
 directory_found x m old size range used Patched is all place = subst (AreFound m.length m.held m.extents) (sym (append-nil used)) all
 directory_found x m old size range used (New d) is all place = found_more m.length m.held m.extents used (use_all (space_of m) used).length (directory_span d) all (new_found x m size used d is all place.1)
 
--- the length afterwards
-abbrev pub length_after : CodeAct Tile → DirectoryChange → MapState → ℕ
-length_after a d m = length_by d (space_behind a m).length
-
-pub length_small : (x : Index) (m : MapState) (a : CodeAct Tile) (d : DirectoryChange) → IsMapOf x m → (m.length ≤ (space_behind a m).length) × ((space_behind a m).length ≤ length_after a d m) × (length_after a d m ≤ 2 ^ 62)
-length_small x m a d is =
-    let low = (use_all_ends (space_of m) (new_spans a)).0 in
-    let most : (space_behind a m).length ≤ 2 ^ 62 = use_all_most (2 ^ 62) (space_of m) (new_spans a) (omega (arith, x.small, is.length)) (map-All tile_span (λ (s : Span). end_of s ≤ 2 ^ 62) (tiles_brought a) (each_of _ (λ t. t.ends) (tiles_brought a))) in
-    (low, (by d).0, omega (arith, most, (by d).1))
-  where
-    by : (c : DirectoryChange) → ((space_behind a m).length ≤ length_by c (space_behind a m).length) × (length_by c (space_behind a m).length ≤ max (space_behind a m).length (2 ^ 62))
-    by Kept = (omega arith, omega arith)
-    by Patched = (omega arith, omega arith)
-    by (New e) = (omega arith, omega (arith, e.ends))
-
--- what holds of what is brought and of a new directory
-of_used : (P : Span → Type 0) (a : CodeAct Tile) (d : DirectoryChange) → AllByRecursion P (new_spans a) → ((e : DirItem) → d ≡ New e → P (directory_span e)) → AllByRecursion P (new_spans a ++ used_by d)
-of_used P a d all one = All-both P (new_spans a) (used_by d) all (by d one)
-  where
-    by : (c : DirectoryChange) → ((e : DirItem) → c ≡ New e → P (directory_span e)) → AllByRecursion P (used_by c)
-    by Kept f = tt
-    by Patched f = tt
-    by (New e) f = (f e refl, tt)
-
-are_taken : (x : Index) (m : MapState) (a : CodeAct Tile) (d : DirectoryChange) → IsMapOf x m → AreFound m.length m.held m.extents (new_spans a ++ used_by d) → AreTaken m.length (length_after a d m) m.extents (new_spans a ++ used_by d)
-are_taken x m a d is all =
-    let n : ℕ = (space_behind a m).length in
-    let long : AllByRecursion (λ (s : Span). 32 ≤ s.len) (new_spans a) = map-All tile_span (λ (s : Span). 32 ≤ s.len) (tiles_brought a) (each_of _ (λ t. omega (arith, t.extent)) (tiles_brought a)) in
-    let ends : AllByRecursion (λ (s : Span). end_of s ≤ length_after a d m) (new_spans a)
-    = All-weaken (λ (s : Span). end_of s ≤ n) (λ s. end_of s ≤ length_after a d m) (λ s h. omega (arith, h, (length_small x m a d is).1)) (new_spans a) (use_all_ends (space_of m) (new_spans a)).1 in
-    found_taken m.length (length_after a d m) m.held m.extents (new_spans a ++ used_by d) (λ p. extents_once x m p is) all (of_used (λ s. 32 ≤ s.len) a d long (λ e same. e.long))
-    (of_used (λ s. end_of s ≤ length_after a d m) a d ends (λ e same. omega (arith, ap (λ c. length_by c n) same)))
-
-few_brought : (a : CodeAct Tile) → length (tiles_brought a) ≤ 1
+pub few_brought : {X : Type 0} (a : CodeAct X) → length (tiles_brought a) ≤ 1
 few_brought (Out i) = omega arith
 few_brought (Put i t) = omega arith
 few_brought (Into i t) = omega arith
 
-few_leaving : (a : CodeAct Tile) (ts : List Tile) → length (tiles_leaving a ts) ≤ 1
+pub few_leaving : {X Y : Type 0} (a : CodeAct X) (ts : List Y) → length (tiles_leaving a ts) ≤ 1
 few_leaving (Out i) ts = omega (arith, length-take 1 (drop i ts))
 few_leaving (Put i t) ts = omega (arith, length-take 1 (drop i ts))
 few_leaving (Into i t) ts = omega arith
 
--- one span at most is held back
-pub few_held : (a : CodeAct Tile) (x : Index) (held : List CodeSpan) → map span_of held ≡ usable_of (items_left a x) → length held ≤ 1
-few_held a x held is =
-    omega (arith, length-map held span_of, ap length is, spans_both can_be_used (items_left a x), length-map (tiles_leaving a x.tiles.items) tile_place, few_leaving a x.tiles.items)
+-- the length afterwards
+abbrev pub length_after : {C E S : Type 0} → Kind C E S → CodeAct C → DirectoryChange → MapState → ℕ
+length_after k a d m = length_by d (space_behind k a m).length
 
-few_by : (a : CodeAct Tile) (d : DirectoryChange) (x : Index) → 2 * length (new_spans a ++ used_by d) + length (usable_of (all_left a d x)) + length (dead_of (all_left a d x)) ≤ 6
-few_by a d x = omega (
-  arith,
-  length-append (new_spans a) (used_by d),
-  length-map (tiles_brought a) tile_span,
-  few_brought a,
-  used_few d,
-  spans_both can_be_used (all_left a d x),
-  length-append (items_left a x) (left_directory d x.directory),
-  length-map (tiles_leaving a x.tiles.items) tile_place,
-  few_leaving a x.tiles.items,
-  left_few d x.directory,
-)
-  where
-    used_few : (c : DirectoryChange) → length (used_by c) ≤ 1
-    used_few Kept = omega arith
-    used_few Patched = omega arith
-    used_few (New e) = omega arith
+-- What an act uses and frees, of either list.
+module _ {C E S : Type 0} {k : Kind C E S} (L : Laws k) where
+  pub left_cover : (a : CodeAct C) (d : DirectoryChange) (x : Index) (q : ℕ) → cover (spans_of (all_left k a d x)) q ≡ cover (map (span_in k) (tiles_leaving a (k.items x))) q + cover (spans_of (left_directory d (k.directory x))) q
+  left_cover a d x q = omega (
+    arith,
+    ap (λ l. cover l q) (map-append (λ (p : Place). p.span) (items_left k a x) (left_directory d (k.directory x))),
+    cover-append (spans_of (items_left k a x)) (spans_of (left_directory d (k.directory x))) q,
+    ap (λ l. cover l q) (place_spans k.place (tiles_leaving a (k.items x))),
+  )
 
-    left_few : (c : DirectoryChange) (old : Option DirItem) → length (left_directory c old) ≤ 1
-    left_few Kept old = omega arith
-    left_few Patched old = omega arith
-    left_few (New e) None = omega arith
-    left_few (New e) (Some f) = omega arith
+  are_gone : (x : Index) (m : MapState) (a : CodeAct C) (d : DirectoryChange) → IsMapOf x m → AreGone m.length (header_span x.header) (all_left k a d x) (kept_of d (k.directory x)) m.extents
+  are_gone x m a d is =
+      let B : List Span = L.front x in
+      let D : List Span = option_to_list (option_map directory_span (k.directory x)) in
+      let T : List Span = map (span_in k) (k.items x) in
+      let G : List C = tiles_leaving a (k.items x) in
+      let P : Span → Type 0 = λ s. end_of s ≤ m.length in
+      let R : List Span = L.rest x in
+      let live : AllByRecursion P (header_span x.header ∷ (B ++ (D ++ (T ++ R)))) = subst (AllByRecursion P) (L.live x) (subst (λ n. AllByRecursion (λ (s : Span). end_of s ≤ n) (live_of x)) is.length x.inside) in
+      let behind = All-append P D (T ++ R) (All-append P B (D ++ (T ++ R)) live.1).1 in
+      let tiles = All-append P (map (span_in k) (tiles_before a (k.items x))) _ (subst (AllByRecursion P) (act_spans (span_in k) a (k.items x)) (All-append P T R behind.1).0) in
+      let leaving : AllByRecursion P (map (span_in k) G) = (All-append P (map (span_in k) G) _ tiles.1).0 in
+      record {
+        front = refl;
+        header = omega (arith, x.headed);
+        inside = live.0;
+        rise = map_extents x m is;
+        long = All-both (λ (p : Place). 32 ≤ p.span.len) (items_left k a x) (left_directory d (k.directory x)) (map-All k.place (λ (p : Place). 32 ≤ p.span.len) G (each_of _ (λ t. omega (arith, L.extent t)) G)) (of_both (λ t. 32 ≤ t.len) d (k.directory x) (own_long (k.directory x))).0;
+        ends = All-both (λ (p : Place). end_of p.span ≤ m.length) (items_left k a x) (left_directory d (k.directory x)) (map-All k.place (λ (p : Place). end_of p.span ≤ m.length) G (All-map (span_in k) P G leaving)) (of_both P d (k.directory x) behind.0).0;
+        kept_long = (of_both (λ t. 32 ≤ t.len) d (k.directory x) (own_long (k.directory x))).1;
+        kept_ends = (of_both P d (k.directory x) behind.0).1;
+        once = λ p. omega (
+          arith,
+          live_once x m p is,
+          ap (λ l. cover l p) (L.live x),
+          left_cover a d x p,
+          one_of_both d (k.directory x) p,
+          cover-append B (D ++ (T ++ R)) p,
+          cover-append D (T ++ R) p,
+          cover-append T R p,
+          ap (λ l. cover l p) (act_spans (span_in k) a (k.items x)),
+          cover-append (map (span_in k) (tiles_before a (k.items x))) (map (span_in k) G ++ map (span_in k) (tiles_behind a (k.items x))) p,
+          cover-append (map (span_in k) G) (map (span_in k) (tiles_behind a (k.items x))) p,
+        );
+      }
 
--- the spans of an act
-pub parts_of : (x : Index) (m : MapState) (a : CodeAct Tile) (d : DirectoryChange) → IsMapOf x m → AreFound m.length m.held m.extents (new_spans a ++ used_by d)
-    → AreParts m.length (length_after a d m) (new_spans a ++ used_by d) (sorted span_le (usable_of (all_left a d x))) (dead_of (all_left a d x)) (kept_of d x.directory) m.extents
-parts_of x m a d is all =
-    are_parts m.length (length_after a d m) (header_span x.header) (all_left a d x) (kept_of d x.directory) m.extents (new_spans a ++ used_by d) (are_gone x m a d is) (are_taken x m a d is all)
-    (omega (arith, length_small x m a d is)) (length_small x m a d is).2 (few_by a d x)
+  -- a new item
+  pub item_found : (x : Index) (m : MapState) (s : S) (t : C) → IsMapOf x m → IsNew k x m s t → IsFound m.length m.held m.extents [] m.length (span_in k t)
+  item_found x m s t is new = found_in x m (k.need s) [] (span_in k t) is (none_found m.length m.held m.extents) (L.need s).0 (L.need s).1 new.fits
 
--- nothing live lies in what is used
-pub used_apart : (x : Index) (m : MapState) (a : CodeAct Tile) (d : DirectoryChange) (q : ℕ) → IsMapOf x m → AreFound m.length m.held m.extents (new_spans a ++ used_by d)
-    → cover (live_of x) q + (cover (new_spans a ++ used_by d) q + cover (without (new_spans a ++ used_by d) m.extents) q) ≤ 1
-used_apart x m a d q is all =
-    let taken = are_taken x m a d is all in
-    elim (cases_lt q m.length) [
-      | inl h ↦ omega (arith, live_once x m q is, taken.apart q, taken.below q h, without_fewer (new_spans a ++ used_by d) m.extents q)
-      | inr h ↦ omega (arith, taken.apart q, ends_none x.length q (live_of x) x.inside (omega (arith, h, is.length)))
-    ]
+  pub brought_found : (x : Index) (m : MapState) (region : Region) (a : CodeAct C) (c : Change S) (writes : List (ℕ × Range)) → IsMapOf x m → Brings k x m region a c writes → AreFound m.length m.held m.extents (new_spans k a)
+  brought_found x m region (Out i) c writes is b = none_found m.length m.held m.extents
+  brought_found x m region (Put i t) c writes is b = found_more m.length m.held m.extents [] m.length (span_in k t) (none_found m.length m.held m.extents) (item_found x m b.0 t is b.2)
+  brought_found x m region (Into i t) c writes is b = found_more m.length m.held m.extents [] m.length (span_in k t) (none_found m.length m.held m.extents) (item_found x m b.0 t is b.2)
+
+  pub length_small : (x : Index) (m : MapState) (a : CodeAct C) (d : DirectoryChange) → IsMapOf x m → (m.length ≤ (space_behind k a m).length) × ((space_behind k a m).length ≤ length_after k a d m) × (length_after k a d m ≤ 2 ^ 62)
+  length_small x m a d is =
+      let low = (use_all_ends (space_of m) (new_spans k a)).0 in
+      let most : (space_behind k a m).length ≤ 2 ^ 62 = use_all_most (2 ^ 62) (space_of m) (new_spans k a) (omega (arith, x.small, is.length)) (map-All (span_in k) (λ (s : Span). end_of s ≤ 2 ^ 62) (tiles_brought a) (each_of _ (λ t. L.ends t) (tiles_brought a))) in
+      (low, (by d).0, omega (arith, most, (by d).1))
+    where
+      by : (c : DirectoryChange) → ((space_behind k a m).length ≤ length_by c (space_behind k a m).length) × (length_by c (space_behind k a m).length ≤ max (space_behind k a m).length (2 ^ 62))
+      by Kept = (omega arith, omega arith)
+      by Patched = (omega arith, omega arith)
+      by (New e) = (omega arith, omega (arith, e.ends))
+
+  -- what holds of what is brought and of a new directory
+  of_used : (P : Span → Type 0) (a : CodeAct C) (d : DirectoryChange) → AllByRecursion P (new_spans k a) → ((e : DirItem) → d ≡ New e → P (directory_span e)) → AllByRecursion P (new_spans k a ++ used_by d)
+  of_used P a d all one = All-both P (new_spans k a) (used_by d) all (by d one)
+    where
+      by : (c : DirectoryChange) → ((e : DirItem) → c ≡ New e → P (directory_span e)) → AllByRecursion P (used_by c)
+      by Kept f = tt
+      by Patched f = tt
+      by (New e) f = (f e refl, tt)
+
+  are_taken : (x : Index) (m : MapState) (a : CodeAct C) (d : DirectoryChange) → IsMapOf x m → AreFound m.length m.held m.extents (new_spans k a ++ used_by d) → AreTaken m.length (length_after k a d m) m.extents (new_spans k a ++ used_by d)
+  are_taken x m a d is all =
+      let n : ℕ = (space_behind k a m).length in
+      let long : AllByRecursion (λ (s : Span). 32 ≤ s.len) (new_spans k a) = map-All (span_in k) (λ (s : Span). 32 ≤ s.len) (tiles_brought a) (each_of _ (λ t. omega (arith, L.extent t)) (tiles_brought a)) in
+      let ends : AllByRecursion (λ (s : Span). end_of s ≤ length_after k a d m) (new_spans k a)
+      = All-weaken (λ (s : Span). end_of s ≤ n) (λ s. end_of s ≤ length_after k a d m) (λ s h. omega (arith, h, (length_small x m a d is).1)) (new_spans k a) (use_all_ends (space_of m) (new_spans k a)).1 in
+      found_taken m.length (length_after k a d m) m.held m.extents (new_spans k a ++ used_by d) (λ p. extents_once x m p is) all (of_used (λ s. 32 ≤ s.len) a d long (λ e same. e.long))
+      (of_used (λ s. end_of s ≤ length_after k a d m) a d ends (λ e same. omega (arith, ap (λ c. length_by c n) same)))
+
+  -- one span at most is held back
+  pub few_held : (a : CodeAct C) (x : Index) (held : List CodeSpan) → map span_of held ≡ usable_of (items_left k a x) → length held ≤ 1
+  few_held a x held is =
+      omega (arith, length-map held span_of, ap length is, spans_both can_be_used (items_left k a x), length-map (tiles_leaving a (k.items x)) k.place, few_leaving a (k.items x))
+
+  few_by : (a : CodeAct C) (d : DirectoryChange) (x : Index) → 2 * length (new_spans k a ++ used_by d) + length (usable_of (all_left k a d x)) + length (dead_of (all_left k a d x)) ≤ 6
+  few_by a d x = omega (
+    arith,
+    length-append (new_spans k a) (used_by d),
+    length-map (tiles_brought a) (span_in k),
+    few_brought a,
+    used_few d,
+    spans_both can_be_used (all_left k a d x),
+    length-append (items_left k a x) (left_directory d (k.directory x)),
+    length-map (tiles_leaving a (k.items x)) k.place,
+    few_leaving a (k.items x),
+    left_few d (k.directory x),
+  )
+    where
+      used_few : (c : DirectoryChange) → length (used_by c) ≤ 1
+      used_few Kept = omega arith
+      used_few Patched = omega arith
+      used_few (New e) = omega arith
+
+      left_few : (c : DirectoryChange) (old : Option DirItem) → length (left_directory c old) ≤ 1
+      left_few Kept old = omega arith
+      left_few Patched old = omega arith
+      left_few (New e) None = omega arith
+      left_few (New e) (Some f) = omega arith
+
+  -- the spans of an act
+  pub parts_of : (x : Index) (m : MapState) (a : CodeAct C) (d : DirectoryChange) → IsMapOf x m → AreFound m.length m.held m.extents (new_spans k a ++ used_by d)
+      → AreParts m.length (length_after k a d m) (new_spans k a ++ used_by d) (sorted span_le (usable_of (all_left k a d x))) (dead_of (all_left k a d x)) (kept_of d (k.directory x)) m.extents
+  parts_of x m a d is all =
+      are_parts m.length (length_after k a d m) (header_span x.header) (all_left k a d x) (kept_of d (k.directory x)) m.extents (new_spans k a ++ used_by d) (are_gone x m a d is) (are_taken x m a d is all)
+      (omega (arith, length_small x m a d is)) (length_small x m a d is).2 (few_by a d x)
+
+  -- nothing live lies in what is used
+  pub used_apart : (x : Index) (m : MapState) (a : CodeAct C) (d : DirectoryChange) (q : ℕ) → IsMapOf x m → AreFound m.length m.held m.extents (new_spans k a ++ used_by d)
+      → cover (live_of x) q + (cover (new_spans k a ++ used_by d) q + cover (without (new_spans k a ++ used_by d) m.extents) q) ≤ 1
+  used_apart x m a d q is all =
+      let taken = are_taken x m a d is all in
+      elim (cases_lt q m.length) [
+        | inl h ↦ omega (arith, live_once x m q is, taken.apart q, taken.below q h, without_fewer (new_spans k a ++ used_by d) m.extents q)
+        | inr h ↦ omega (arith, taken.apart q, ends_none x.length q (live_of x) x.inside (omega (arith, h, is.length)))
+      ]
 
 pub spans_split : (q : Place → Bool) (xs ys : List Place) → spans_of (filter q (xs ++ ys)) ≡ spans_of (filter q xs) ++ spans_of (filter q ys)
 spans_split q xs ys = ap spans_of (filter-append q xs ys) ∙ map-append (λ (p : Place). p.span) (filter q xs) (filter q ys)
-
-pub usable_first : (t : Place) (ps : List Place) → usable_of (t ∷ ps) ≡ usable_of (t ∷ []) ++ usable_of ps
-usable_first t ps = spans_split can_be_used (t ∷ []) ps

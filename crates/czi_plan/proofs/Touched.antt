@@ -5,12 +5,12 @@ use Rattle.std.proofs.lemmas.Bool.{cases_Bool, cases_lt, lt-ltb, ltb-true, ltb-f
 use Rattle.std.proofs.lemmas.Bool.Decides.{nat_tests}
 use Rattle.std.proofs.lemmas.List.Elements.{filter-append}
 use Rattle.czi_format.specs.Space.{deleted_after, from_to, left_of, same_span, together, with_all_freed, with_freed, with_next, without}
-use Rattle.czi_format.specs.Span.{Span, end_of, meets, sorted, span_le}
+use Rattle.czi_format.specs.Span.{Span, end_of, meets, sorted, span_le, LiesInOne}
 use Rattle.czi_machine.proofs.Leaving.{among_themselves}
 use Rattle.czi_machine.proofs.Tiled.{All-filter, All-both, All-weaken}
 use Rattle.czi_spans.specs.Apart.{AreApart}
 use Rattle.czi_spans.proofs.Apart.{apart_two}
-use Rattle.czi_space.specs.State.{AreExtents, LiesInOne, MeetsNone}
+use Rattle.czi_space.specs.State.{AreExtents, MeetsNone}
 use Rattle.czi_space.proofs.Edited.{read_as}
 use Rattle.czi_space.proofs.Freed.{freed_extents}
 use Rattle.czi_plan.specs.Geometry.{AreFreed, AreUsed, is_touched, touches}

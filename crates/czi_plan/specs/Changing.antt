@@ -1,35 +1,27 @@
--- One act on the subblocks, and what a plan has of it.
-use Rattle.std.specs.Prelude.{◌≡◌, ℕ, ◌+◌, ◌-◌, ◌^◌, ◌≤◌, List, [], ◌∷◌, ◌++◌, map, take, drop, length, sum, ◌==◌, ◌||◌, nat_lt, Bool, if◌then◌else◌, Ok}
-use Rattle.czi_format.specs.Data.{subblock_data}
-use Rattle.czi_format.specs.Document.{Subblock}
-use Rattle.czi_format.specs.Entry.{Entry, entry_len}
+-- One act on the subblocks or on the attachments, and what a plan has of it.
+use Rattle.std.specs.Prelude.{◌≡◌, ℕ, ◌+◌, ◌-◌, ◌≤◌, List, [], ◌∷◌, ◌++◌, map, take, drop, length, sum, ◌==◌, ◌||◌, nat_lt, Bool, if◌then◌else◌, Ok}
 use Rattle.czi_format.specs.Layout.{Place}
 use Rattle.czi_format.specs.Space.{Space, fit, use_all, use_span}
 use Rattle.czi_format.specs.Span.{Span, span_le, sorted}
 use Rattle.czi_image.specs.Applied.{walks_on}
 use Rattle.czi_image.specs.Change.{AreWithin}
-use Rattle.czi_image.specs.Holds.{tile_place}
-use Rattle.czi_image.specs.Spans.{tile_span}
-use Rattle.czi_image.specs.View.{tile_of}
 use Rattle.czi_image.specs.declared.change.Act.{Act as CodeAct}
 use Rattle.czi_image.specs.declared.change.Act.TheVariants.{Out, Put, Into}
 use Rattle.czi_image.specs.declared.change.DirectoryChange.{DirectoryChange}
 use Rattle.czi_image.specs.declared.change.DirectoryChange.TheVariants.{Kept}
 use Rattle.czi_image.specs.declared.change.Setting.TheVariants.{Same}
 use Rattle.czi_image.specs.declared.index.Index.{Index}
-use Rattle.czi_image.specs.declared.types.Tile.{Tile}
 use Rattle.czi_links.specs.Record.{Bytes}
 use Rattle.czi_machine.specs.Change.{Change, into, out, put}
-use Rattle.czi_machine.specs.Places.{entry_sizes, subblock_need}
-use Rattle.czi_machine.specs.Puts.{IsSubblock}
 use Rattle.czi_num.specs.Span.{span_of}
 use Rattle.czi_num.specs.declared.span.Span.{Span as CodeSpan}
 use Rattle.czi_region.specs.Pieces.{IsPiece, bytes_of}
 use Rattle.czi_region.specs.declared.block.Piece.{Piece as Range}
 use Rattle.czi_region.specs.declared.block.Region.{Region}
 use Rattle.czi_space.specs.State.{MapState, space_of}
-use Rattle.czi_plan.specs.Directory.{as_long, back_of, directory_size, entries_of, middle_of}
-use Rattle.czi_plan.specs.Listing.{IsPlace, Lists}
+use Rattle.czi_plan.specs.Directory.{as_long_in, back_in, middle_in}
+use Rattle.czi_plan.specs.Kind.{Kind, span_in}
+use Rattle.czi_plan.specs.Listing.{IsPlace, Lists, entries_len, size_in}
 use Rattle.czi_plan.specs.Marks.{AreInOrder, head_mark}
 use Rattle.czi_plan.specs.Plan.{dead_of, left_directory, usable_of}
 use Rattle.czi_plan.specs.declared.plan.EditPlan.{EditPlan}
@@ -55,116 +47,117 @@ tiles_behind (Out i) tiles = drop (i + 1) tiles
 tiles_behind (Put i t) tiles = drop (i + 1) tiles
 tiles_behind (Into i t) tiles = drop i tiles
 
-abbrev pub size_of : List Tile → ℕ
-size_of tiles = sum (map entry_len (entries_of tiles))
-
 -- The entries of the directory afterwards, in three parts: those in front stay, those in the middle are written where the
 -- directory is changed in place, and those at the back stay.
-abbrev pub stays_behind : CodeAct Tile → List Tile → Bool
-stays_behind a tiles = as_long (entries_of (tiles_brought a)) (entries_of (tiles_leaving a tiles))
+abbrev pub entries_in : {C E S : Type 0} → Kind C E S → List C → List E
+entries_in k items = map k.entry items
 
-abbrev pub front_entries : CodeAct Tile → List Tile → List Entry
-front_entries a tiles = entries_of (tiles_before a tiles)
+abbrev pub size_of : {C E S : Type 0} → Kind C E S → List C → ℕ
+size_of k items = entries_len k (entries_in k items)
 
-abbrev pub middle_entries : CodeAct Tile → List Tile → List Entry
-middle_entries a tiles = middle_of (entries_of (tiles_brought a)) (entries_of (tiles_leaving a tiles)) (entries_of (tiles_behind a tiles))
+abbrev pub stays_behind : {C E S : Type 0} → Kind C E S → CodeAct C → List C → Bool
+stays_behind k a items = as_long_in k.len (entries_in k (tiles_brought a)) (entries_in k (tiles_leaving a items))
 
-abbrev pub back_entries : CodeAct Tile → List Tile → List Entry
-back_entries a tiles = back_of (entries_of (tiles_brought a)) (entries_of (tiles_leaving a tiles)) (entries_of (tiles_behind a tiles))
+abbrev pub front_entries : {C E S : Type 0} → Kind C E S → CodeAct C → List C → List E
+front_entries k a items = entries_in k (tiles_before a items)
+
+abbrev pub middle_entries : {C E S : Type 0} → Kind C E S → CodeAct C → List C → List E
+middle_entries k a items = middle_in k.len (entries_in k (tiles_brought a)) (entries_in k (tiles_leaving a items)) (entries_in k (tiles_behind a items))
+
+abbrev pub back_entries : {C E S : Type 0} → Kind C E S → CodeAct C → List C → List E
+back_entries k a items = back_in k.len (entries_in k (tiles_brought a)) (entries_in k (tiles_leaving a items)) (entries_in k (tiles_behind a items))
 
 -- how long the data of the directory is, and how much of it is written where it is changed in place
-abbrev pub size_after : CodeAct Tile → Index → ℕ
-size_after a x = directory_size (front_entries a x.tiles.items ++ (middle_entries a x.tiles.items ++ back_entries a x.tiles.items))
+abbrev pub size_after : {C E S : Type 0} → Kind C E S → CodeAct C → Index → ℕ
+size_after k a x = size_in k (front_entries k a (k.items x) ++ (middle_entries k a (k.items x) ++ back_entries k a (k.items x)))
 
-abbrev pub range_after : CodeAct Tile → Index → ℕ
-range_after a x = sum (map entry_len (middle_entries a x.tiles.items))
+abbrev pub range_after : {C E S : Type 0} → Kind C E S → CodeAct C → Index → ℕ
+range_after k a x = entries_len k (middle_entries k a (k.items x))
 
 -- The same numbers where what an act brings has no place yet: the lengths of entries hang on no place.
-abbrev pub size_with : CodeAct Subblock → Index → ℕ
-size_with b x = 128 + (size_of (tiles_before b x.tiles.items) + (sum (entry_sizes (tiles_brought b)) + size_of (tiles_behind b x.tiles.items)))
+abbrev pub new_sizes : {C E S : Type 0} → Kind C E S → CodeAct S → ℕ
+new_sizes k b = sum (map k.len_of (tiles_brought b))
 
-abbrev pub range_with : CodeAct Subblock → Index → ℕ
-range_with b x = if sum (entry_sizes (tiles_brought b)) == size_of (tiles_leaving b x.tiles.items) then sum (entry_sizes (tiles_brought b))
-    else sum (entry_sizes (tiles_brought b)) + size_of (tiles_behind b x.tiles.items)
+abbrev pub size_with : {C E S : Type 0} → Kind C E S → CodeAct S → Index → ℕ
+size_with k b x = k.head + (size_of k (tiles_before b (k.items x)) + (new_sizes k b + size_of k (tiles_behind b (k.items x))))
+
+abbrev pub range_with : {C E S : Type 0} → Kind C E S → CodeAct S → Index → ℕ
+range_with k b x = if new_sizes k b == size_of k (tiles_leaving b (k.items x)) then new_sizes k b else new_sizes k b + size_of k (tiles_behind b (k.items x))
 
 -- what is used for what the act brings, and the space that is left then
-abbrev pub new_spans : CodeAct Tile → List Span
-new_spans a = map tile_span (tiles_brought a)
+abbrev pub new_spans : {C E S : Type 0} → Kind C E S → CodeAct C → List Span
+new_spans k a = map (span_in k) (tiles_brought a)
 
-abbrev pub space_behind : CodeAct Tile → MapState → Space
-space_behind a m = use_all (space_of m) (new_spans a)
+abbrev pub space_behind : {C E S : Type 0} → Kind C E S → CodeAct C → MapState → Space
+space_behind k a m = use_all (space_of m) (new_spans k a)
 
 -- the items that leave, and then a directory for which there is a new one
-abbrev pub items_left : CodeAct Tile → Index → List Place
-items_left a x = map tile_place (tiles_leaving a x.tiles.items)
+abbrev pub items_left : {C E S : Type 0} → Kind C E S → CodeAct C → Index → List Place
+items_left k a x = map k.place (tiles_leaving a (k.items x))
 
-abbrev pub all_left : CodeAct Tile → DirectoryChange → Index → List Place
-all_left a d x = items_left a x ++ left_directory d x.directory
+abbrev pub all_left : {C E S : Type 0} → Kind C E S → CodeAct C → DirectoryChange → Index → List Place
+all_left k a d x = items_left k a x ++ left_directory d (k.directory x)
 
--- The subblock of an edit stands in a tile: it lies where its need fits first, and says what its segment will hold.
-pub record IsNew (x : Index) (m : MapState) (s : Subblock) (t : Tile) : Type 0 where
-  pub fits : fit (space_of m) (subblock_need s) ≡ Ok (record { span = tile_span t; space = use_span (space_of m) (tile_span t) })
-  pub walked : t.walked ≡ (nat_lt t.span.at x.length || walks_on x)
-  pub item : IsSubblock (tile_of t) s
-  pub used : t.head.used ≡ length (subblock_data (tile_of t).entry s 0)
+-- What an edit brings stands in an item: it lies where its need fits first, and says what its segment will hold.
+pub record IsNew {C E S : Type 0} (k : Kind C E S) (x : Index) (m : MapState) (s : S) (t : C) : Type 0 where
+  pub fits : fit (space_of m) (k.need s) ≡ Ok (record { span = span_in k t; space = use_span (space_of m) (span_in k t) })
+  pub walked : (k.place t).walked ≡ (nat_lt (span_in k t).at x.length || walks_on x)
+  pub item : k.Says t s
+  pub used : (k.segment t).used ≡ length (k.contents t s 0)
 
 -- Its data is a piece of the region, which is written behind the header.
-pub record IsStaged (region : Region) (s : Subblock) (t : Tile) (writes : List (ℕ × Range)) : Type 0 where
+pub record IsStaged {C E S : Type 0} (k : Kind C E S) (region : Region) (s : S) (t : C) (writes : List (ℕ × Range)) : Type 0 where
   pub piece : Range
   pub staged : IsPiece region piece
-  pub long : piece.len ≡ t.span.len - 32
+  pub long : piece.len ≡ (span_in k t).len - 32
   pub padding : ℕ
-  pub bytes : bytes_of region piece ≡ subblock_data (tile_of t).entry s padding
-  pub only : writes ≡ (t.span.at + 32, piece) ∷ []
+  pub bytes : bytes_of region piece ≡ k.contents t s padding
+  pub only : writes ≡ ((span_in k t).at + 32, piece) ∷ []
 
--- An act does what an edit does with the subblocks, and what it brings is staged.
-abbrev pub Brings : Index → MapState → Region → CodeAct Tile → Change Subblock → List (ℕ × Range) → Type 0
-Brings x m region (Out i) c writes = (c ≡ out i) × (writes ≡ [])
-Brings x m region (Put i t) c writes = (s : Subblock) × (c ≡ put i s) × IsNew x m s t × IsStaged region s t writes
-Brings x m region (Into i t) c writes = (s : Subblock) × (c ≡ into i s) × IsNew x m s t × IsStaged region s t writes
+-- An act does what an edit does with the items, and what it brings is staged.
+abbrev pub Brings : {C E S : Type 0} → Kind C E S → Index → MapState → Region → CodeAct C → Change S → List (ℕ × Range) → Type 0
+Brings k x m region (Out i) c writes = (c ≡ out i) × (writes ≡ [])
+Brings {S = S} k x m region (Put i t) c writes = (s : S) × (c ≡ put i s) × IsNew k x m s t × IsStaged k region s t writes
+Brings {S = S} k x m region (Into i t) c writes = (s : S) × (c ≡ into i s) × IsNew k x m s t × IsStaged k region s t writes
 
 -- its header is a mark
-abbrev pub new_marks : CodeAct Tile → List Bytes
-new_marks a = map (λ (t : Tile). head_mark (tile_of t).segment) (tiles_brought a)
+abbrev pub new_marks : {C E S : Type 0} → Kind C E S → CodeAct C → List Bytes
+new_marks k a = map (λ t. head_mark (k.segment t)) (tiles_brought a)
 
 -- What is brought is staged, and its span is used; then the directory is planned, what leaves is freed, and the links are put.
-pub record Stages (x : Index) (m : MapState) (a : CodeAct Tile) (c : Change Subblock) (region : Region) (d : DirectoryChange) (new : EditPlan) : Type 0 where
-  pub within : AreWithin (a ∷ []) (length x.tiles.items)
-  pub few : length (tiles_before a x.tiles.items ++ (tiles_brought a ++ tiles_behind a x.tiles.items)) ≤ 2 ^ 20
+pub record Stages {C E S : Type 0} (k : Kind C E S) (x : Index) (m : MapState) (a : CodeAct C) (c : Change S) (region : Region) (d : DirectoryChange) (new : EditPlan) : Type 0 where
+  pub within : AreWithin (a ∷ []) (length (k.items x))
+  pub few : length (tiles_before a (k.items x) ++ (tiles_brought a ++ tiles_behind a (k.items x))) ≤ k.most
   -- what is brought
   pub first : EditPlan
-  pub brings : Brings x m region a c first.writes.items
-  pub first_used : map span_of first.used.items ≡ new_spans a
-  pub first_length : first.length ≡ (space_behind a m).length
+  pub brings : Brings k x m region a c first.writes.items
+  pub first_used : map span_of first.used.items ≡ new_spans k a
+  pub first_length : first.length ≡ (space_behind k a m).length
   -- the directory behind it
   pub mid : EditPlan
   pub marks : List Bytes
-  pub place : IsPlace x x.directory (size_after a x) (range_after a x) (space_behind a m) d
-  pub lists : Lists x.directory d (front_entries a x.tiles.items) (middle_entries a x.tiles.items) (back_entries a x.tiles.items) region first mid (new_marks a) marks
+  pub place : IsPlace x (k.directory x) (size_after k a x) (range_after k a x) (space_behind k a m) d
+  pub lists : Lists k (k.directory x) d (front_entries k a (k.items x)) (middle_entries k a (k.items x)) (back_entries k a (k.items x)) region first mid (new_marks k a) marks
   pub writes : new.writes ≡ mid.writes
   pub used : new.used ≡ mid.used
   pub length : new.length ≡ mid.length
   -- the change
-  pub directory : new.change.directory ≡ d
-  pub acts : new.change.tiles.items ≡ a ∷ []
-  pub attdir : new.change.attdir ≡ Kept
-  pub attachments : new.change.attachments.items ≡ []
-  pub metadata : new.change.metadata ≡ Same
+  pub change : k.Does new.change a d
   -- what leaves
-  pub held : map span_of new.held.items ≡ usable_of (items_left a x)
-  pub freed : map span_of new.freed.items ≡ sorted span_le (usable_of (all_left a d x))
+  pub held : map span_of new.held.items ≡ usable_of (items_left k a x)
+  pub freed : map span_of new.freed.items ≡ sorted span_le (usable_of (all_left k a d x))
   pub dead : List CodeSpan
-  pub is_dead : map span_of dead ≡ dead_of (all_left a d x)
+  pub is_dead : map span_of dead ≡ dead_of (all_left k a d x)
   pub links : AreInOrder marks (map span_of new.used.items) (map span_of new.freed.items) (map span_of dead) m.extents new.links.links
 
--- A plan in which these tiles have their spans, and nothing else is planned but the directory.
-pub record Starts (m : MapState) (brought : List Tile) (p : EditPlan) : Type 0 where
+-- A plan in which these spans are used, and nothing else is planned but a directory.
+pub record Starts {C E S : Type 0} (k : Kind C E S) (m : MapState) (spans : List Span) (p : EditPlan) : Type 0 where
   pub tiles : p.change.tiles.items ≡ []
-  pub attdir : p.change.attdir ≡ Kept
   pub attachments : p.change.attachments.items ≡ []
   pub metadata : p.change.metadata ≡ Same
+  pub other : k.other p.change ≡ Kept
   pub links : p.links.links ≡ []
   pub freed : p.freed.items ≡ []
   pub held : p.held.items ≡ []
-  pub used : map span_of p.used.items ≡ map tile_span brought
-  pub length : p.length ≡ (use_all (space_of m) (map tile_span brought)).length
+  pub used : map span_of p.used.items ≡ spans
+  pub length : p.length ≡ (use_all (space_of m) spans).length

@@ -7,14 +7,14 @@ use Rattle.czi_image.specs.declared.types.Tile.{Tile}
 use Rattle.czi_format.specs.Data.{directory_data}
 use Rattle.czi_machine.specs.Places.{segment_need, with_slack}
 use Rattle.czi_plan.specs.declared.tiles.Listing.{Listing}
-use Rattle.czi_plan.specs.declared.tiles.Sizes.{Sizes}
+use Rattle.czi_format.specs.declared.numbers.TheConstants.{DIRECTORY_FRONT}
 
 abbrev pub entries_of : List Tile → List Entry
 entries_of tiles = map (λ (t : Tile). (tile_of t).entry) tiles
 
 -- the length of the data without padding
 abbrev pub directory_size : List Entry → ℕ
-directory_size es = 128 + sum (map entry_len es)
+directory_size es = DIRECTORY_FRONT + sum (map entry_len es)
 
 -- the extent of a new directory whose data has a length
 abbrev pub need_of : ℕ → ℕ
@@ -26,14 +26,21 @@ data_in n es = directory_data es (n - directory_size es)
 
 -- Some entries leave, and others come in their place. What stands behind stays where as many bytes come as leave: then what
 -- comes is written, and else what stands behind it is written too.
-abbrev pub as_long : List Entry → List Entry → Bool
-as_long brought leaving = sum (map entry_len brought) == sum (map entry_len leaving)
+abbrev pub as_long_in : {E : Type 0} → (E → ℕ) → (brought leaving : List E) → Bool
+as_long_in len brought leaving = sum (map len brought) == sum (map len leaving)
 
+abbrev pub middle_in : {E : Type 0} → (E → ℕ) → (brought leaving behind : List E) → List E
+middle_in len brought leaving behind = if as_long_in len brought leaving then brought else brought ++ behind
+
+abbrev pub back_in : {E : Type 0} → (E → ℕ) → (brought leaving behind : List E) → List E
+back_in len brought leaving behind = if as_long_in len brought leaving then behind else []
+
+-- the same of entries of subblocks
 abbrev pub middle_of : (brought leaving behind : List Entry) → List Entry
-middle_of brought leaving behind = if as_long brought leaving then brought else brought ++ behind
+middle_of brought leaving behind = middle_in entry_len brought leaving behind
 
 abbrev pub back_of : (brought leaving behind : List Entry) → List Entry
-back_of brought leaving behind = if as_long brought leaving then behind else []
+back_of brought leaving behind = back_in entry_len brought leaving behind
 
 -- what a listing has in these three parts
 abbrev pub listed_front : Listing → List Entry
@@ -47,12 +54,6 @@ listed_back l = entries_of l.still.now
 
 abbrev pub listed : Listing → List Entry
 listed l = listed_front l ++ (listed_middle l ++ listed_back l)
-
--- how long the parts are, the front with what the data begins with
-pub record AreSizes (s : Sizes) (front middle back : List Entry) : Type 0 where
-  pub front_is : s.front ≡ directory_size front
-  pub middle_is : s.middle ≡ sum (map entry_len middle)
-  pub back_is : s.back ≡ sum (map entry_len back)
 
 -- entries were written over some bytes, from one place up to another
 pub record WritesEntries (es : List Entry) (at end : ℕ) (old new : List ℕ) : Type 0 where

@@ -4,12 +4,12 @@ use Rattle.czi_format.specs.Layout.{Layout}
 use Rattle.czi_format.specs.Live.{Live}
 use Rattle.czi_format.specs.Space.{Full, Space}
 use Rattle.czi_image.specs.Applied.{layout_after}
-use Rattle.czi_image.specs.Change.{turn_of}
+use Rattle.czi_image.specs.Change.{live_change_of}
 use Rattle.czi_image.specs.declared.index.Index.{Index}
 use Rattle.czi_machine.specs.Edit.{DocumentEffect}
 use Rattle.czi_machine.specs.Grouped.{FitAll, fit_all}
 use Rattle.czi_machine.specs.InOrder.{LiesInOrder, needs_of}
-use Rattle.czi_machine.specs.Places.{edit_next, laid, space_of}
+use Rattle.czi_machine.specs.Places.{edit_asks, laid, space_of}
 use Rattle.czi_machine.specs.Planned.{Plans}
 use Rattle.czi_machine.specs.State.{State, item_places, item_spans, items_of, not_among}
 use Rattle.czi_region.specs.declared.block.Region.{Region}
@@ -31,9 +31,9 @@ pub record DoesIn (image : List ℕ) (live : Live) (s : State) (x : Index) (regi
   pub space : Space
   pub fits : fit_all (space_of s) (needs_of s e) ≡ Ok (record { spans = used_of p; space = space })
   pub length : p.length ≡ space.length
-  pub order : LiesInOrder s e (turn_of p.change x) (used_of p)
-  pub goes : laid s (edit_next s e) ≡ Ok (layout_by p s)
-  pub plans : Plans image s.layout (layout_by p s) live e (turn_of p.change x) (pieces_of region p)
+  pub order : LiesInOrder s e (live_change_of p.change x) (used_of p)
+  pub goes : laid s (edit_asks s e) ≡ Ok (layout_by p s)
+  pub plans : Plans image s.layout (layout_by p s) live e (live_change_of p.change x) (pieces_of region p)
   -- the items of the state that aren't live afterwards are those that leave
   pub leaves : not_among (item_spans (items_of (layout_by p s))) (item_places (items_of s.layout)) ≡ left_items p.change x
 

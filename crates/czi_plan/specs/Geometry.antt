@@ -2,9 +2,9 @@
 use Rattle.std.specs.Prelude.{◌⊎◌, ℕ, ◌+◌, ◌^◌, ◌≤◌, ◌*◌, ◌≡◌, List, [], ◌∷◌, ◌++◌, length, ⊤, Bool, ◌&&◌, nat_le}
 use Rattle.std.specs.List.{AllByRecursion, list_any}
 use Rattle.czi_format.specs.Space.{without, with_freed, deleted_after}
-use Rattle.czi_format.specs.Span.{Span, end_of, span_le, sorted}
+use Rattle.czi_format.specs.Span.{Span, end_of, span_le, sorted, IsWhole, LiesInOne}
 use Rattle.czi_machine.specs.Cover.{cover}
-use Rattle.czi_space.specs.State.{AreExtents, IsWhole, LiesInOne, MeetsNone}
+use Rattle.czi_space.specs.State.{AreExtents, MeetsNone}
 
 -- each in turn lies in one extent, of what the earlier ones left, or at or past the length
 abbrev pub AreUsed : ℕ → List Span → List Span → Type 0

@@ -1,4 +1,5 @@
 pub mod Pieces
+pub mod Kind
 pub mod Directory
 pub mod Conditions
 pub mod Search
@@ -10,3 +11,5 @@ pub mod Plan
 pub mod Does
 pub mod Changing
 pub mod Bringing
+pub mod Attaching
+pub mod Setting

@@ -1,9 +1,7 @@
 -- What becomes of a directory that lists other items, and what a plan has of it.
 use Rattle.std.specs.Prelude.{◌≡◌, ⊤, ℕ, ◌+◌, ◌-◌, ◌≤◌, List, [], ◌∷◌, ◌++◌, length, map, max, sum, flat_map, Bool, true, false, ◌&&◌, ◌||◌, nat_le, nat_lt, Option, Some, None, Ok}
 use Rattle.std.specs.List.{AllByRecursion}
-use Rattle.czi_format.specs.Entry.{Entry, IsEntry, entry_bytes, entry_len}
 use Rattle.czi_format.specs.Space.{Space, fit, use_span}
-use Rattle.czi_format.specs.Segment.{directory_id}
 use Rattle.czi_image.specs.Applied.{walks_on}
 use Rattle.czi_image.specs.Spans.{directory_span}
 use Rattle.czi_image.specs.declared.change.DirectoryChange.{DirectoryChange}
@@ -14,9 +12,11 @@ use Rattle.czi_links.specs.Record.{Bytes}
 use Rattle.czi_region.specs.Pieces.{IsPiece, bytes_of}
 use Rattle.czi_region.specs.declared.block.Piece.{Piece as Range}
 use Rattle.czi_region.specs.declared.block.Region.{Region}
-use Rattle.czi_plan.specs.Directory.{data_in, directory_size, need_of}
+use Rattle.czi_plan.specs.Directory.{need_of}
+use Rattle.czi_plan.specs.Kind.{Kind}
 use Rattle.czi_plan.specs.Marks.{head_mark, patch_marks, pointer_mark}
 use Rattle.czi_plan.specs.declared.plan.EditPlan.{EditPlan}
+use Rattle.czi_plan.specs.declared.tiles.Sizes.{Sizes}
 
 -- it has room for data of a size
 abbrev pub has_room : DirItem → ℕ → Type 0
@@ -47,30 +47,43 @@ IsReady None size room Patched = ⊥
 IsReady (Some d) size room Patched = has_room d size
 IsReady old size room (New d) = has_room d size × (d.span.len - 32 ≤ room)
 
+-- Entries of either kind: how many bytes, and the length of a directory's data without padding
+abbrev pub entries_len : {C E S : Type 0} → Kind C E S → List E → ℕ
+entries_len k es = sum (map k.len es)
+
+abbrev pub size_in : {C E S : Type 0} → Kind C E S → List E → ℕ
+size_in k es = k.head + entries_len k es
+
+-- how long the parts of its data are, the front with what the data begins with
+pub record AreSizes {C E S : Type 0} (k : Kind C E S) (s : Sizes) (front middle back : List E) : Type 0 where
+  pub front_is : s.front ≡ size_in k front
+  pub middle_is : s.middle ≡ entries_len k middle
+  pub back_is : s.back ≡ entries_len k back
+
 -- The marks of a directory that lies where it lay: of its entries those in the middle are written.
-pub record Patches (d : DirItem) (front middle back : List Entry) (old new : List Bytes) : Type 0 where
-  pub marks : new ≡ old ++ patch_marks d.span.at (directory_size (front ++ (middle ++ back))) (length (front ++ (middle ++ back))) (directory_size front) (flat_map entry_bytes middle)
-  pub entries : AllByRecursion IsEntry middle
-  pub size : length (flat_map entry_bytes middle) ≡ sum (map entry_len middle)
+pub record Patches {C E S : Type 0} (k : Kind C E S) (d : DirItem) (front middle back : List E) (old new : List Bytes) : Type 0 where
+  pub marks : new ≡ old ++ patch_marks d.span.at (size_in k (front ++ (middle ++ back))) (length (front ++ (middle ++ back))) (size_in k front) (flat_map k.bytes middle)
+  pub entries : AllByRecursion k.Is middle
+  pub size : length (flat_map k.bytes middle) ≡ entries_len k middle
 
 -- A new directory: one write of its data, its header, and the pointer to it.
-pub record Writes (d : DirItem) (es : List Entry) (region : Region) (old new : EditPlan) (before after : List Bytes) : Type 0 where
+pub record Writes {C E S : Type 0} (k : Kind C E S) (d : DirItem) (es : List E) (region : Region) (old new : EditPlan) (before after : List Bytes) : Type 0 where
   pub piece : Range
   pub staged : IsPiece region piece
   pub long : piece.len ≡ d.span.len - 32
-  pub bytes : bytes_of region piece ≡ data_in (d.span.len - 32) es
-  pub entries : AllByRecursion IsEntry es
+  pub bytes : bytes_of region piece ≡ k.data_of es (d.span.len - 32 - size_in k es)
+  pub entries : AllByRecursion k.Is es
   pub writes : new.writes.items ≡ old.writes.items ++ (d.span.at + 32, piece) ∷ []
   pub used : new.used.items ≡ old.used.items ++ d.span ∷ []
   pub end : new.length ≡ max old.length (d.span.at + d.span.len)
   pub others : new ≡ record old { writes = new.writes; used = new.used; length = new.length }
-  pub marks : after ≡ before ++ pointer_mark 84 d.span.at ∷ head_mark (record { at = d.span.at; id = directory_id; allocated = d.span.len - 32; used = directory_size es }) ∷ []
+  pub marks : after ≡ before ++ pointer_mark k.pointer d.span.at ∷ head_mark (record { at = d.span.at; id = k.id; allocated = d.span.len - 32; used = size_in k es }) ∷ []
 
-abbrev pub Lists : Option DirItem → DirectoryChange → (front middle back : List Entry) → Region → (old new : EditPlan) → (marks_before marks_after : List Bytes) → Type 0
-Lists was Kept front middle back region old new marks more = (new ≡ old) × (more ≡ marks)
-Lists None Patched front middle back region old new marks more = ⊥
-Lists (Some d) Patched front middle back region old new marks more = (new ≡ old) × Patches d front middle back marks more
-Lists was (New d) front middle back region old new marks more = Writes d (front ++ (middle ++ back)) region old new marks more
+abbrev pub Lists : {C E S : Type 0} → Kind C E S → Option DirItem → DirectoryChange → (front middle back : List E) → Region → (old new : EditPlan) → (marks_before marks_after : List Bytes) → Type 0
+Lists k was Kept front middle back region old new marks more = (new ≡ old) × (more ≡ marks)
+Lists k None Patched front middle back region old new marks more = ⊥
+Lists k (Some d) Patched front middle back region old new marks more = (new ≡ old) × Patches k d front middle back marks more
+Lists k was (New d) front middle back region old new marks more = Writes k d (front ++ (middle ++ back)) region old new marks more
 
 -- the pieces that there were are still ones, and have the bytes that they had
 abbrev pub KeepsPut : Region → Region → Type 0

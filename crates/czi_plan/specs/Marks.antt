@@ -12,6 +12,7 @@ use Rattle.czi_machine.specs.Cover.{cover}
 use Rattle.czi_machine.specs.Writes.{deleted_segment}
 use Rattle.czi_num.specs.declared.span.Span.{Span as CodeSpan}
 use Rattle.czi_plan.specs.Geometry.{AreUsed, AreFreed}
+use Rattle.czi_links.specs.declared.numbers.TheConstants.{FIRST_PLACE}
 
 -- a mark as a link
 abbrev pub Mark : Type 0
@@ -63,7 +64,7 @@ pub record ArePut (marks links : List Bytes) : Type 0 where
 
 -- No two of them have a place in common; each has a byte, and begins behind the GUIDs of the file header.
 pub record CanPut (marks : List Bytes) : Type 0 where
-  pub low : AllByRecursion (λ (b : Bytes). 84 ≤ b.place) marks
+  pub low : AllByRecursion (λ (b : Bytes). FIRST_PLACE ≤ b.place) marks
   pub some : AllByRecursion (λ (b : Bytes). 1 ≤ length b.bytes) marks
   pub once : (q : ℕ) → cover (map byte_span marks) q ≤ 1
   pub few : sum_by (λ (b : Bytes). length b.bytes) marks < 2 ^ 63

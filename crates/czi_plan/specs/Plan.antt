@@ -28,6 +28,7 @@ use Rattle.czi_space.specs.State.{MapState}
 use Rattle.czi_plan.specs.Geometry.{AreUsed, AreFreed}
 use Rattle.czi_plan.specs.Pieces.{AreNear, last_end, pieces_of, writes_of}
 use Rattle.czi_plan.specs.declared.plan.EditPlan.{EditPlan}
+use Rattle.czi_links.specs.declared.numbers.TheConstants.{FIRST_PLACE, SLOT_LEN}
 
 -- each place of it lies in a DELETED extent, past its header and outside the held spans, or at or past the length
 abbrev pub LiesFree : MapState → Bytes → Type 0
@@ -73,9 +74,9 @@ pub record IsPlan (x : Index) (m : MapState) (region : Region) (p : EditPlan) : 
   pub reach : p.length ≤ last_end m.length (writes_of region p)
   pub fits : last_end m.length (writes_of region p) ≤ 2 ^ 62
   -- the links rise, end within the length, and their record fits a slot of the journal
-  pub rising : AreRising 84 p.links.links
+  pub rising : AreRising FIRST_PLACE p.links.links
   pub within : EndWithin p.length p.links.links
-  pub brief : encoded_len p.links.links ≤ 262144
+  pub brief : encoded_len p.links.links ≤ SLOT_LEN
   pub once : (q : ℕ) → cover (map piece_span (pieces_of region p)) q ≤ 1
   -- what is used can be taken out of the map, and then what is freed be put into it, in order of place
   pub takes : AreUsed m.length (used_of p) m.extents

@@ -25,7 +25,7 @@ use std::alloc::Global;
 /// The subblock goes where its need fits first, and then the directory is planned in the space that is left, as for a
 /// removal: in place where it has room for one entry more, of which nothing but that entry is written. The subblock's
 /// data are one write, from a piece of the region, into which each payload is copied once, and its header is a link.
-/// With m subblocks it takes m steps.
+/// Of the subblocks only the numbers of their keys are scanned.
 ///
 /// # Errors
 ///
@@ -51,7 +51,6 @@ pub fn plan_add(
     requires tail { length tail.now ≤ DATA_LIMIT }
     ensures plan { OnOk result (IsPlan index.now space.now region.new out.new) }
     ensures does { OnOk result (Does index.now space.now region.new out.new (in_subblocks (into (length index.now.tiles.items) (subblock_in info.now meta.now pixels.now tail.now)))) }
-    ensures change { OnOk result ((t : Tile) × (out.new.change.tiles.items ≡ Into (length index.now.tiles.items) t ∷ [])) }
     ensures held { OnOk result (length out.new.held.items ≤ 1) }
     ensures full { IfErr result (HasNoPlan index.now space.now (in_subblocks (into (length index.now.tiles.items) (subblock_in info.now meta.now pixels.now tail.now)))) }
 {

@@ -18,6 +18,7 @@ ghost use Rattle.czi_plan.specs.Does.{Does, HasNoPlan};
 ghost use Rattle.czi_plan.specs.Directory.{entries_of};
 ghost use Rattle.czi_plan.specs.Listing.{IsPlace};
 ghost use Rattle.czi_plan.specs.Plan.{IsPlan};
+ghost use Rattle.czi_plan.specs.Kind.{of_subblocks};
 
 use crate::changing::{make_room, stage_act};
 use crate::listing::plan_directory;
@@ -27,13 +28,14 @@ use crate::staging::{new_tile, stage_subblock};
 use crate::subblock::NewSubblock;
 use crate::tiles::{Sizes, sizes_after};
 use czi_dv::entry_len;
+use czi_format::LONGEST_ENTRY;
 use czi_image::{Act, Index, Tile};
 use czi_num::Span;
 use czi_region::Region;
 use czi_space::Map;
 use std::alloc::{AllocError, Global};
 
-/// Where a new subblock comes in the order of the directory.
+/// Where a new item comes in the order of its directory.
 #[derive(Clone, Copy, PartialEq, Eq)]
 pub enum Seat {
     /// In the place of another one, which leaves.
@@ -52,24 +54,24 @@ struct Incoming<'a> {
 }
 
 impl Seat {
-    /// What a subblock does with the others that comes there.
-    fn act(self, tile: Tile) -> Act<Tile>
-        ensures { result ≡ act_at self tile }
+    /// What an item does with the others that comes there.
+    pub fn act<T>(self, item: T) -> Act<T>
+        ensures { result ≡ act_at self item }
     {
         match self {
-            Seat::Over(i) => Act::Put(i, tile),
-            Seat::Before(i) => Act::Into(i, tile),
+            Seat::Over(i) => Act::Put(i, item),
+            Seat::Before(i) => Act::Into(i, item),
         }
     }
 
     /// How long the parts of the directory's data are once an entry of so many bytes comes there.
     fn sizes(self, tiles: &[Tile], total: usize, entry: usize) -> Sizes
         requires total { total ≡ sum (map entry_len (entries_of tiles.now)) }
-        requires most { total ≤ 832 * length tiles.now }
+        requires most { total ≤ LONGEST_ENTRY * length tiles.now }
         requires few { length tiles.now ≤ 2 ^ 20 }
-        requires seat { IsSeat self (length tiles.now) }
-        requires small { entry ≤ 832 }
-        ensures sizes { (s : Subblock) → info_len s.info ≡ entry → AreSizesOf result (act_at self s) tiles.now }
+        requires seat { IsSeat self (length tiles.now) (2 ^ 20) }
+        requires small { entry ≤ LONGEST_ENTRY }
+        ensures sizes { (s : Subblock) → info_len s.info ≡ entry → AreSizesOf of_subblocks result (act_at self s) tiles.now }
         ensures bound { result.front + result.middle + result.back ≤ 2 ^ 40 }
     {
         match self {
@@ -88,16 +90,16 @@ fn stage_brought(
     region: &mut Region,
     out: &mut EditPlan,
 ) -> Result<(), AllocError>
-    requires starts { Starts space.now [] out.old }
+    requires starts { Starts of_subblocks space.now [] out.old }
     requires no_writes { out.old.writes.items ≡ [] }
     requires reset { bytes_put region.old ≡ [] }
     requires of_index { IsMapOf index.now space.now }
-    requires seat { IsSeat incoming.now.seat (length index.now.tiles.items) }
+    requires seat { IsSeat incoming.now.seat (length index.now.tiles.items) (2 ^ 20) }
     requires fits { fit (space_of space.now) (subblock_need (subblock_of incoming.now.new.now)) ≡ Ok (record { span = span_of incoming.now.span; space = use_span (space_of space.now) (span_of incoming.now.span) }) }
     requires ends { incoming.now.span.at + incoming.now.span.len ≤ 2 ^ 62 }
-    requires sizes { AreSizesOf incoming.now.sizes (act_at incoming.now.seat (subblock_of incoming.now.new.now)) index.now.tiles.items }
+    requires sizes { AreSizesOf of_subblocks incoming.now.sizes (act_at incoming.now.seat (subblock_of incoming.now.new.now)) index.now.tiles.items }
     requires place { IsPlace index.now index.now.directory (incoming.now.sizes.front + incoming.now.sizes.middle + incoming.now.sizes.back) incoming.now.sizes.middle (use_span (space_of space.now) (span_of incoming.now.span)) out.old.change.directory }
-    ensures { OnOk result ((t : Tile) × Stages index.now space.now (act_at incoming.now.seat t) (act_of (act_at incoming.now.seat (subblock_of incoming.now.new.now))) region.new out.old.change.directory out.new) }
+    ensures { OnOk result ((t : Tile) × Stages of_subblocks index.now space.now (act_at incoming.now.seat t) (act_of (act_at incoming.now.seat (subblock_of incoming.now.new.now))) region.new out.old.change.directory out.new) }
 {
     make_room(incoming.new.data_len(), &out.change.directory, region)?;
     let tile = new_tile(index, incoming.new, incoming.span)?;
@@ -131,10 +133,9 @@ pub fn plan_brought(
     requires empty { IsEmpty out.old }
     requires reset { bytes_put region.old ≡ [] }
     requires of_index { IsMapOf index.now space.now }
-    requires seat { IsSeat seat (length index.now.tiles.items) }
+    requires seat { IsSeat seat (length index.now.tiles.items) (2 ^ 20) }
     ensures plan { OnOk result (IsPlan index.now space.now region.new out.new) }
     ensures does { OnOk result (Does index.now space.now region.new out.new (in_subblocks (act_of (act_at seat (subblock_of new.now))))) }
-    ensures change { OnOk result ((t : Tile) × (out.new.change.tiles.items ≡ act_at seat t ∷ [])) }
     ensures held { OnOk result (length out.new.held.items ≤ 1) }
     ensures full { IfErr result (HasNoPlan index.now space.now (in_subblocks (act_of (act_at seat (subblock_of new.now))))) }
 {

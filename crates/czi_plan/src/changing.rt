@@ -1,26 +1,27 @@
 //! The plan of one act on the subblocks, once places were found for what it brings and for the directory.
 
-ghost use Rattle.std.specs.Prelude.{◌≡◌, ℕ, ◌+◌, ◌^◌, ◌≤◌, ◌++◌, ◌∷◌, [], length, map, OnOk};
+ghost use Rattle.std.specs.Prelude.{◌≡◌, ℕ, List, ◌+◌, ◌^◌, ◌≤◌, ◌++◌, ◌∷◌, [], length, map, OnOk};
 ghost use Rattle.std.specs.List.{AllByRecursion};
 ghost use Rattle.czi_format.specs.Document.{Subblock};
+ghost use Rattle.czi_format.specs.Layout.{Place};
 ghost use Rattle.czi_format.specs.Span.{span_le, sorted};
 ghost use Rattle.czi_image.specs.Change.{AreWithin};
 ghost use Rattle.czi_image.specs.Holds.{tile_place};
 ghost use Rattle.czi_machine.specs.Change.{Change};
 ghost use Rattle.czi_num.specs.Span.{span_of};
 ghost use Rattle.czi_region.specs.Pieces.{bytes_put, room};
-ghost use Rattle.czi_plan.specs.Changing.{Brings, Stages, Starts, back_entries, front_entries, middle_entries, new_marks, range_after, size_after, space_behind, tiles_before, tiles_behind, tiles_brought};
+ghost use Rattle.czi_plan.specs.Changing.{Brings, Stages, Starts, back_entries, front_entries, middle_entries, new_marks, new_spans, range_after, size_after, space_behind, tiles_before, tiles_behind, tiles_brought};
 ghost use Rattle.czi_plan.specs.Conditions.{IsMapOf};
-ghost use Rattle.czi_plan.specs.Directory.{AreSizes};
-ghost use Rattle.czi_plan.specs.Listing.{HasRoomFor, IsPlace};
+ghost use Rattle.czi_plan.specs.Listing.{AreSizes, HasRoomFor, IsPlace};
 ghost use Rattle.czi_plan.specs.Marks.{IsSized, mark_of};
 ghost use Rattle.czi_plan.specs.Plan.{dead_of, left_directory, usable_of};
+ghost use Rattle.czi_plan.specs.Kind.{of_subblocks};
 
 use crate::freeing::release;
 use crate::listing::list_tiles;
 use crate::marks::{Mark, link};
 use crate::plan::EditPlan;
-use crate::tiles::{Sizes, listing_of, parts_of};
+use crate::tiles::{Sizes, brought_tiles, listing_of, parts_of};
 use czi_image::{Act, DirItem, DirectoryChange, Index, Tile};
 use czi_num::Span;
 use czi_region::Region;
@@ -78,6 +79,24 @@ fn release_directory(
     Ok(())
 }
 
+/// Frees items that leave, which are held, and a directory for which there is a new one.
+pub fn release_held(
+    change: &DirectoryChange,
+    directory: &Option<DirItem>,
+    held: &[Span],
+    freed: &mut Vec<Span>,
+    dead: &mut Vec<Span>,
+) -> Result<(), AllocError>
+    requires no_freed { freed.old.items ≡ [] }
+    ensures freed { OnOk result ((left : List Place) → map span_of held.now ≡ usable_of left → map span_of freed.new.items ≡ sorted span_le (usable_of (left ++ left_directory change.now directory.now))) }
+    ensures dead { OnOk result ((left : List Place) → map span_of dead.old.items ≡ dead_of left → map span_of dead.new.items ≡ dead_of (left ++ left_directory change.now directory.now)) }
+{
+    freed.extend_from_slice(held)?;
+    release_directory(change, directory, freed, dead)?;
+    sort_spans(freed);
+    Ok(())
+}
+
 /// Frees subblocks that leave, and a directory for which there is a new one. The subblocks are held.
 fn release_left(
     leaving: &[Tile],
@@ -95,9 +114,7 @@ fn release_left(
     ensures dead { OnOk result (map span_of dead.new.items ≡ dead_of (map tile_place leaving.now ++ left_directory change.now directory.now)) }
 {
     release_tiles(leaving, held, dead)?;
-    freed.extend_from_slice(held)?;
-    release_directory(change, directory, freed, dead)?;
-    sort_spans(freed);
+    release_held(change, directory, held, freed, dead)?;
     Ok(())
 }
 
@@ -116,17 +133,18 @@ pub fn stage_act(
     requires of_index { IsMapOf index.now space.now }
     requires within { AreWithin (act ∷ []) (length index.now.tiles.items) }
     requires few { length (tiles_before act index.now.tiles.items ++ (tiles_brought act ++ tiles_behind act index.now.tiles.items)) ≤ 2 ^ 20 }
-    requires sizes { AreSizes sizes.now (front_entries act index.now.tiles.items) (middle_entries act index.now.tiles.items) (back_entries act index.now.tiles.items) }
-    requires starts { Starts space.now (tiles_brought act) out.old }
-    requires brings { (c : Change Subblock) × Brings index.now space.now region.old act c out.old.writes.items }
-    requires marks { map mark_of marks.items ≡ new_marks act }
+    requires sizes { AreSizes of_subblocks sizes.now (front_entries of_subblocks act index.now.tiles.items) (middle_entries of_subblocks act index.now.tiles.items) (back_entries of_subblocks act index.now.tiles.items) }
+    requires starts { Starts of_subblocks space.now (new_spans of_subblocks act) out.old }
+    requires brings { (c : Change Subblock) × Brings of_subblocks index.now space.now region.old act c out.old.writes.items }
+    requires marks { map mark_of marks.items ≡ new_marks of_subblocks act }
     requires sized { AllByRecursion IsSized marks.items }
-    requires place { IsPlace index.now index.now.directory (size_after act index.now) (range_after act index.now) (space_behind act space.now) out.old.change.directory }
+    requires place { IsPlace index.now index.now.directory (size_after of_subblocks act index.now) (range_after of_subblocks act index.now) (space_behind of_subblocks act space.now) out.old.change.directory }
     requires room { HasRoomFor out.old.change.directory (room region.old) }
-    ensures { OnOk result ((c : Change Subblock) → Brings index.now space.now region.old act c out.old.writes.items → Stages index.now space.now act c region.new out.old.change.directory out.new) }
+    ensures { OnOk result ((c : Change Subblock) → Brings of_subblocks index.now space.now region.old act c out.old.writes.items → Stages of_subblocks index.now space.now act c region.new out.old.change.directory out.new) }
 {
     let mut marks = marks;
-    let parts = parts_of(&act, &index.tiles);
+    let brought = brought_tiles(&act, &index.tiles);
+    let parts = parts_of(&act, brought, &index.tiles);
     let listing = listing_of(&parts);
     list_tiles(alloc, index, &listing, sizes, region, out, &mut marks)?;
     let mut dead = Vec::new(alloc);

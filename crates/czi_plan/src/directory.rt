@@ -9,13 +9,14 @@ ghost use Rattle.czi_plan.specs.Directory.{WritesEntries, data_in, directory_siz
 
 use crate::tiles::Listing;
 use czi_dv::{entry_len, write_directory_head, write_entry};
+use czi_format::DIRECTORY_FRONT;
 use czi_image::Tile;
 use czi_num::write_bytes;
 use czi_region::{Piece, Region, whole_piece, written_piece};
 use std::alloc::{AllocError, Global};
 
 /// A place as it is stored in a position.
-fn position_of(place: u64) -> i64
+pub fn position_of(place: u64) -> i64
     requires { place < 2 ^ 63 }
     ensures { result ≡ pos place }
 {
@@ -81,7 +82,7 @@ fn fill_directory(listing: &Listing, out: &mut [u8])
     ensures entries { AllByRecursion IsEntry (listed listing.now) }
 {
     write_bytes(out, 0, &write_directory_head(count_of(listing) as u32));
-    write_listing(listing, 128, out);
+    write_listing(listing, DIRECTORY_FRONT, out);
 }
 
 /// Puts the data of a directory into a region as one piece of `len` bytes, padded with zeros.

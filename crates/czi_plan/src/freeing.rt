@@ -2,9 +2,9 @@
 
 ghost use Rattle.std.specs.Prelude.{◌≡◌, ◌⊎◌, ◌+◌, ◌*◌, ◌≤◌, ◌++◌, ◌∷◌, [], map, length, OnOk};
 ghost use Rattle.czi_format.specs.Space.{without, with_all_freed, deleted_after};
-ghost use Rattle.czi_format.specs.Span.{span_le, sorted};
+ghost use Rattle.czi_format.specs.Span.{span_le, sorted, IsWhole, LiesInOne};
 ghost use Rattle.czi_num.specs.Span.{span_of};
-ghost use Rattle.czi_space.specs.State.{AreExtents, Has, IsWhole, LiesInOne};
+ghost use Rattle.czi_space.specs.State.{AreExtents, Has};
 ghost use Rattle.czi_plan.specs.Geometry.{AreFreed, AreUsed};
 ghost use Rattle.czi_plan.specs.Plan.{dead_of, usable_of};
 

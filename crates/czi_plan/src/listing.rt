@@ -1,31 +1,31 @@
 //! Directories that list other items than before.
 
-ghost use Rattle.std.specs.Prelude.{◌≡◌, ◌+◌, ◌^◌, ◌<◌, ◌≤◌, ◌++◌, ◌-◌, true, false, length, map, max, IfOk, IfErr, OnOk};
+ghost use Rattle.std.specs.Prelude.{◌≡◌, ◌+◌, ◌^◌, ◌<◌, ◌≤◌, ◌++◌, ◌∷◌, [], ◌-◌, true, false, length, map, max, IfOk, IfErr, OnOk};
 ghost use Rattle.std.specs.List.{AllByRecursion};
 ghost use Rattle.czi_format.specs.Space.{fit, use_all};
 ghost use Rattle.czi_num.specs.Span.{span_of};
 ghost use Rattle.czi_machine.specs.Places.{with_slack};
+ghost use Rattle.czi_seg.specs.View.{id_bytes};
 ghost use Rattle.czi_region.specs.Pieces.{room};
 ghost use Rattle.czi_space.specs.State.{AreExtents, space_of};
-ghost use Rattle.czi_plan.specs.Directory.{AreSizes, directory_size, listed, listed_back, listed_front, listed_middle, need_of};
-ghost use Rattle.czi_plan.specs.Listing.{IsPlace, IsReady, KeepsPut, Lists, Patches, Writes, fits_in_place, has_room};
-ghost use Rattle.czi_plan.specs.Marks.{IsSized, mark_of};
+ghost use Rattle.czi_plan.specs.Directory.{directory_size, listed, listed_back, listed_front, listed_middle, need_of};
+ghost use Rattle.czi_plan.specs.Listing.{AreSizes, IsPlace, IsReady, KeepsPut, Lists, Patches, Writes, fits_in_place, has_room};
+ghost use Rattle.czi_plan.specs.Marks.{IsSized, head_mark, mark_of, pointer_mark};
 ghost use Rattle.czi_plan.specs.Placing.{IsFull};
+ghost use Rattle.czi_plan.specs.Kind.{of_subblocks};
 
 use crate::directory::{count_of, middle_bytes, stage_directory};
 use crate::marks::{Mark, mark_header, mark_patch, mark_pointer};
 use crate::placing::{place, walks_at};
 use crate::plan::{EditPlan, PlanFault};
 use crate::tiles::{Listing, Sizes};
+use czi_format::DIRECTORY_POSITION;
 use czi_image::{DirItem, DirectoryChange, Index};
 use czi_num::{Span, round32};
-use czi_region::Region;
+use czi_region::{Piece, Region};
 use czi_seg::{SegHeader, SegId};
 use czi_space::Map;
 use std::alloc::{AllocError, Global};
-
-/// The place of DirectoryPosition in the image.
-const DIRECTORY_POSITION: u64 = 84;
 
 /// How many bytes of a directory's data are written in place at most.
 const LONGEST_RANGE: usize = 65_536;
@@ -86,10 +86,10 @@ fn patch_tiles(
     marks: &mut Vec<Mark>,
 ) -> Result<(), AllocError>
     requires few { length (listed listing.now) ≤ 2 ^ 20 }
-    requires sizes { AreSizes sizes.now (listed_front listing.now) (listed_middle listing.now) (listed_back listing.now) }
+    requires sizes { AreSizes of_subblocks sizes.now (listed_front listing.now) (listed_middle listing.now) (listed_back listing.now) }
     requires room { has_room directory.now (directory_size (listed listing.now)) }
     requires sized { AllByRecursion IsSized marks.old.items }
-    ensures patches { OnOk result (Patches directory.now (listed_front listing.now) (listed_middle listing.now) (listed_back listing.now) (map mark_of marks.old.items) (map mark_of marks.new.items)) }
+    ensures patches { OnOk result (Patches of_subblocks directory.now (listed_front listing.now) (listed_middle listing.now) (listed_back listing.now) (map mark_of marks.old.items) (map mark_of marks.new.items)) }
     ensures sized { OnOk result (AllByRecursion IsSized marks.new.items) }
 {
     let entries = middle_bytes(alloc, listing, sizes.middle)?;
@@ -107,6 +107,43 @@ fn patch_tiles(
     Ok(())
 }
 
+/// Plans a new directory of either kind whose data is a piece: that is one write, and the pointer to it and its header are
+/// links.
+pub fn put_directory(
+    alloc: Global,
+    directory: &DirItem,
+    pointer: u64,
+    id: SegId,
+    used: usize,
+    piece: Piece,
+    out: &mut EditPlan,
+    marks: &mut Vec<Mark>,
+) -> Result<(), AllocError>
+    requires low { pointer ≤ 112 }
+    requires id { length (id_bytes id) ≡ 16 }
+    requires small { used ≤ 2 ^ 62 }
+    requires sized { AllByRecursion IsSized marks.old.items }
+    ensures writes { OnOk result (out.new.writes.items ≡ out.old.writes.items ++ (directory.now.span.at + 32, piece) ∷ []) }
+    ensures used { OnOk result (out.new.used.items ≡ out.old.used.items ++ directory.now.span ∷ []) }
+    ensures end { OnOk result (out.new.length ≡ max out.old.length (directory.now.span.at + directory.now.span.len)) }
+    ensures others { OnOk result (out.new ≡ record out.old { writes = out.new.writes; used = out.new.used; length = out.new.length }) }
+    ensures marks { OnOk result (map mark_of marks.new.items ≡ map mark_of marks.old.items ++ pointer_mark pointer directory.now.span.at ∷ head_mark (record { at = directory.now.span.at; id = id_bytes id; allocated = directory.now.span.len - 32; used = used }) ∷ []) }
+    ensures sized { OnOk result (AllByRecursion IsSized marks.new.items) }
+{
+    let span = directory.span;
+    let header = SegHeader {
+        id,
+        allocated: span.len - 32,
+        used: used as u64,
+    };
+    out.writes.push((span.at + 32, piece))?;
+    out.used.push(span)?;
+    out.length = out.length.max(span.at + span.len);
+    mark_pointer(alloc, pointer, span.at, marks)?;
+    mark_header(alloc, span.at, &header, marks)?;
+    Ok(())
+}
+
 /// Plans a new directory of subblocks: one write of its data, its header and the pointer to it.
 fn write_tiles(
     alloc: Global,
@@ -118,27 +155,26 @@ fn write_tiles(
     marks: &mut Vec<Mark>,
 ) -> Result<(), AllocError>
     requires few { length (listed listing.now) ≤ 2 ^ 20 }
-    requires sizes { AreSizes sizes.now (listed_front listing.now) (listed_middle listing.now) (listed_back listing.now) }
+    requires sizes { AreSizes of_subblocks sizes.now (listed_front listing.now) (listed_middle listing.now) (listed_back listing.now) }
     requires long { has_room directory.now (directory_size (listed listing.now)) }
     requires room { directory.now.span.len - 32 ≤ room region.old }
     requires sized { AllByRecursion IsSized marks.old.items }
-    ensures writes { OnOk result (Writes directory.now (listed listing.now) region.new out.old out.new (map mark_of marks.old.items) (map mark_of marks.new.items)) }
+    ensures writes { OnOk result (Writes of_subblocks directory.now (listed listing.now) region.new out.old out.new (map mark_of marks.old.items) (map mark_of marks.new.items)) }
     ensures sized { OnOk result (AllByRecursion IsSized marks.new.items) }
     ensures kept { KeepsPut region.old region.new }
 {
-    let span = directory.span;
-    let allocated = span.len - 32;
-    let header = SegHeader {
-        id: SegId::Directory,
-        allocated,
-        used: sizes.total() as u64,
-    };
-    let piece = stage_directory(listing, allocated as usize, region);
-    out.writes.push((span.at + 32, piece))?;
-    out.used.push(span)?;
-    out.length = out.length.max(span.at + span.len);
-    mark_pointer(alloc, DIRECTORY_POSITION, span.at, marks)?;
-    mark_header(alloc, span.at, &header, marks)?;
+    let len = (directory.span.len - 32) as usize;
+    let piece = stage_directory(listing, len, region);
+    put_directory(
+        alloc,
+        directory,
+        DIRECTORY_POSITION as u64,
+        SegId::Directory,
+        sizes.total(),
+        piece,
+        out,
+        marks,
+    )?;
     Ok(())
 }
 
@@ -153,10 +189,10 @@ pub fn list_tiles(
     marks: &mut Vec<Mark>,
 ) -> Result<(), AllocError>
     requires few { length (listed listing.now) ≤ 2 ^ 20 }
-    requires sizes { AreSizes sizes.now (listed_front listing.now) (listed_middle listing.now) (listed_back listing.now) }
+    requires sizes { AreSizes of_subblocks sizes.now (listed_front listing.now) (listed_middle listing.now) (listed_back listing.now) }
     requires ready { IsReady index.now.directory (directory_size (listed listing.now)) (room region.old) out.old.change.directory }
     requires sized { AllByRecursion IsSized marks.old.items }
-    ensures lists { OnOk result (Lists index.now.directory out.old.change.directory (listed_front listing.now) (listed_middle listing.now) (listed_back listing.now) region.new out.old out.new (map mark_of marks.old.items) (map mark_of marks.new.items)) }
+    ensures lists { OnOk result (Lists of_subblocks index.now.directory out.old.change.directory (listed_front listing.now) (listed_middle listing.now) (listed_back listing.now) region.new out.old out.new (map mark_of marks.old.items) (map mark_of marks.new.items)) }
     ensures sized { OnOk result (AllByRecursion IsSized marks.new.items) }
     ensures kept { KeepsPut region.old region.new }
 {

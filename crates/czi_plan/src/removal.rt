@@ -9,12 +9,12 @@ ghost use Rattle.czi_machine.specs.Edit.{in_subblocks};
 ghost use Rattle.czi_region.specs.Pieces.{bytes_put};
 ghost use Rattle.czi_plan.specs.Changing.{Stages, Starts, back_entries, front_entries, middle_entries, range_after, size_after};
 ghost use Rattle.czi_plan.specs.Conditions.{IsEmpty, IsMapOf};
-ghost use Rattle.czi_plan.specs.Directory.{AreSizes};
 ghost use Rattle.czi_plan.specs.Does.{Does, HasNoPlan};
-ghost use Rattle.czi_plan.specs.Listing.{IsPlace};
+ghost use Rattle.czi_plan.specs.Listing.{AreSizes, IsPlace};
 ghost use Rattle.czi_plan.specs.Plan.{IsPlan};
 ghost use Rattle.czi_plan.specs.Search.{tile_with};
 ghost use Rattle.czi_space.specs.State.{space_of};
+ghost use Rattle.czi_plan.specs.Kind.{of_subblocks};
 
 use crate::changing::{make_room, stage_act};
 use crate::listing::plan_directory;
@@ -37,14 +37,14 @@ fn stage_removal(
     region: &mut Region,
     out: &mut EditPlan,
 ) -> Result<(), AllocError>
-    requires starts { Starts space.now [] out.old }
+    requires starts { Starts of_subblocks space.now [] out.old }
     requires no_writes { out.old.writes.items ≡ [] }
     requires reset { bytes_put region.old ≡ [] }
     requires of_index { IsMapOf index.now space.now }
     requires inside { i < length index.now.tiles.items }
-    requires sizes { AreSizes sizes.now (front_entries (Out i) index.now.tiles.items) (middle_entries (Out i) index.now.tiles.items) (back_entries (Out i) index.now.tiles.items) }
-    requires place { IsPlace index.now index.now.directory (size_after (Out i) index.now) (range_after (Out i) index.now) (space_of space.now) out.old.change.directory }
-    ensures { OnOk result (Stages index.now space.now (Out i) (taken_out i) region.new out.old.change.directory out.new) }
+    requires sizes { AreSizes of_subblocks sizes.now (front_entries of_subblocks (Out i) index.now.tiles.items) (middle_entries of_subblocks (Out i) index.now.tiles.items) (back_entries of_subblocks (Out i) index.now.tiles.items) }
+    requires place { IsPlace index.now index.now.directory (size_after of_subblocks (Out i) index.now) (range_after of_subblocks (Out i) index.now) (space_of space.now) out.old.change.directory }
+    ensures { OnOk result (Stages of_subblocks index.now space.now (Out i) (taken_out i) region.new out.old.change.directory out.new) }
 {
     make_room(0, &out.change.directory, region)?;
     let marks = Vec::new(alloc);
@@ -71,7 +71,6 @@ pub fn plan_remove_at(
     requires inside { i < length index.now.tiles.items }
     ensures plan { OnOk result (IsPlan index.now space.now region.new out.new) }
     ensures does { OnOk result (Does index.now space.now region.new out.new (in_subblocks (taken_out i))) }
-    ensures change { OnOk result (out.new.change.tiles.items ≡ Out i ∷ []) }
     ensures held { OnOk result (length out.new.held.items ≤ 1) }
     ensures full { IfErr result (HasNoPlan index.now space.now (in_subblocks (taken_out i))) }
 {
@@ -90,8 +89,8 @@ pub fn plan_remove_at(
 /// more, goes where its need fits first: its data are one write, from a piece of the region, and DirectoryPosition and
 /// its header are links. The headers of new DELETED extents are links too, and a DELETED header for each freed span that
 /// can't be used again. Of the free extents only those are read that a span that is used or freed touches, which are
-/// found by halves; where there is a new directory first fit goes through them in turn. No list of them is copied. With m
-/// subblocks it takes m steps.
+/// found by halves; where there is a new directory first fit goes through them in turn. No list of them is copied. Of
+/// the subblocks only the numbers of their keys are scanned.
 ///
 /// # Errors
 ///
@@ -111,7 +110,6 @@ pub fn plan_remove(
     requires some { IsSome (tile_with (dims_of dims.now) (map tile_of index.now.tiles.items)) }
     ensures plan { OnOk result (IsPlan index.now space.now region.new out.new) }
     ensures does { OnOk result ((i : ℕ) → tile_with (dims_of dims.now) (map tile_of index.now.tiles.items) ≡ Some i → Does index.now space.now region.new out.new (in_subblocks (taken_out i))) }
-    ensures change { OnOk result ((i : ℕ) → tile_with (dims_of dims.now) (map tile_of index.now.tiles.items) ≡ Some i → out.new.change.tiles.items ≡ Out i ∷ []) }
     ensures held { OnOk result (length out.new.held.items ≤ 1) }
     ensures full { IfErr result (λ fault. (i : ℕ) → tile_with (dims_of dims.now) (map tile_of index.now.tiles.items) ≡ Some i → HasNoPlan index.now space.now (in_subblocks (taken_out i)) fault) }
 {

@@ -51,7 +51,6 @@ pub fn plan_replace_at(
     requires tail { length tail.now ≤ DATA_LIMIT }
     ensures plan { OnOk result (IsPlan index.now space.now region.new out.new) }
     ensures does { OnOk result (Does index.now space.now region.new out.new (in_subblocks (put i (subblock_in info.now meta.now pixels.now tail.now)))) }
-    ensures change { OnOk result ((t : Tile) × (out.new.change.tiles.items ≡ Put i t ∷ [])) }
     ensures held { OnOk result (length out.new.held.items ≤ 1) }
     ensures full { IfErr result (HasNoPlan index.now space.now (in_subblocks (put i (subblock_in info.now meta.now pixels.now tail.now)))) }
 {
@@ -65,7 +64,7 @@ pub fn plan_replace_at(
 /// The subblock goes where its need fits first, and then the directory is planned in the space that is left, as for a
 /// removal. Where it is changed in place and the new entry is as long as the old one, only that entry is written. The
 /// subblock's data are one write, from a piece of the region, into which each payload is copied once, and its header is
-/// a link. With m subblocks it takes m steps.
+/// a link. Of the subblocks only the numbers of their keys are scanned.
 ///
 /// # Errors
 ///
@@ -91,7 +90,6 @@ pub fn plan_replace(
     requires tail { length tail.now ≤ DATA_LIMIT }
     ensures plan { OnOk result (IsPlan index.now space.now region.new out.new) }
     ensures does { OnOk result ((i : ℕ) → tile_with (dims_of info.now.dims) (map tile_of index.now.tiles.items) ≡ Some i → Does index.now space.now region.new out.new (in_subblocks (put i (subblock_in info.now meta.now pixels.now tail.now)))) }
-    ensures change { OnOk result ((i : ℕ) → tile_with (dims_of info.now.dims) (map tile_of index.now.tiles.items) ≡ Some i → (t : Tile) × (out.new.change.tiles.items ≡ Put i t ∷ [])) }
     ensures held { OnOk result (length out.new.held.items ≤ 1) }
     ensures full { IfErr result (λ fault. (i : ℕ) → tile_with (dims_of info.now.dims) (map tile_of index.now.tiles.items) ≡ Some i → HasNoPlan index.now space.now (in_subblocks (put i (subblock_in info.now meta.now pixels.now tail.now))) fault) }
 {

@@ -7,9 +7,10 @@ ghost use Rattle.czi_image.specs.View.{tile_of};
 ghost use Rattle.czi_machine.specs.Places.{subblock_need};
 ghost use Rattle.czi_machine.specs.Puts.{IsSubblock};
 ghost use Rattle.czi_region.specs.Pieces.{room};
-ghost use Rattle.czi_plan.specs.Bringing.{IsTile, subblock_of};
+ghost use Rattle.czi_plan.specs.Bringing.{IsTileOf, subblock_of};
 ghost use Rattle.czi_plan.specs.Changing.{IsStaged};
 ghost use Rattle.czi_plan.specs.Marks.{IsSized, head_mark, mark_of};
+ghost use Rattle.czi_plan.specs.Kind.{of_subblocks};
 
 use crate::directory::write_tile;
 use crate::marks::{Mark, mark_header};
@@ -18,20 +19,18 @@ use crate::plan::EditPlan;
 use crate::subblock::NewSubblock;
 use czi_body::stage_sub;
 use czi_dv::entry_len;
+use czi_format::LONGEST_ENTRY;
 use czi_image::{Index, Tile};
 use czi_num::Span;
 use czi_region::Region;
 use czi_seg::{SegHeader, SegId};
 use std::alloc::{AllocError, Global};
 
-/// The most bytes of an entry.
-const LONGEST_ENTRY: usize = 832;
-
 /// The tile of a new subblock in a span.
 pub fn new_tile(index: &Index, new: &NewSubblock, span: Span) -> Result<Tile, AllocError>
     requires long { span.len ≡ subblock_need (subblock_of new.now) }
     requires ends { span.at + span.len ≤ 2 ^ 62 }
-    ensures tile { IfOk result (IsTile (subblock_of new.now) span) }
+    ensures tile { IfOk result (IsTileOf (subblock_of new.now) span) }
     ensures walked { IfOk result (λ t. t.walked ≡ (nat_lt t.span.at index.now.length || walks_on index.now)) }
 {
     let head = SegHeader {
@@ -60,13 +59,13 @@ pub fn stage_subblock(
     out: &mut EditPlan,
     marks: &mut Vec<Mark>,
 ) -> Result<(), AllocError>
-    requires tile { IsTile (subblock_of new.now) tile.now.span tile.now }
+    requires tile { IsTileOf (subblock_of new.now) tile.now.span tile.now }
     requires long { tile.now.span.len ≡ subblock_need (subblock_of new.now) }
     requires room { tile.now.span.len - 32 ≤ room region.old }
     requires sized { AllByRecursion IsSized marks.old.items }
     requires no_writes { out.old.writes.items ≡ [] }
     ensures item { OnOk result (IsSubblock (tile_of tile.now) (subblock_of new.now)) }
-    ensures staged { OnOk result (IsStaged region.new (subblock_of new.now) tile.now out.new.writes.items) }
+    ensures staged { OnOk result (IsStaged of_subblocks region.new (subblock_of new.now) tile.now out.new.writes.items) }
     ensures used { OnOk result (out.new.used.items ≡ out.old.used.items ++ tile.now.span ∷ []) }
     ensures end { OnOk result (out.new.length ≡ max out.old.length (tile.now.span.at + tile.now.span.len)) }
     ensures others { OnOk result (out.new ≡ record out.old { writes = out.new.writes; used = out.new.used; length = out.new.length }) }

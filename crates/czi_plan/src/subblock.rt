@@ -6,12 +6,10 @@ ghost use Rattle.czi_format.specs.Bytes.{IsBytes};
 use czi_body::sub_size;
 use czi_doc::{DATA_LIMIT, EntryInfo, TEXT_LIMIT};
 use czi_dv::entry_len;
+use czi_format::CONTENTS;
 
 /// The place in a subblock's data at which its own entry stands.
 const OWN_ENTRY: usize = 16;
-
-/// The least place in a subblock's data at which its contents begin.
-const LEAST_BEGIN: usize = 256;
 
 /// What a new subblock holds.
 #[derive(Clone, Copy)]
@@ -68,10 +66,10 @@ impl<'a> NewSubblock<'a> {
 
     /// The place in its data at which its contents begin.
     pub fn begin(&self) -> usize
-        ensures value { result ≡ max 256 (16 + (32 + 20 * length (subblock_of self.now).info.dims)) }
+        ensures value { result ≡ max CONTENTS (16 + (32 + 20 * length (subblock_of self.now).info.dims)) }
         ensures bound { result ≤ 2 ^ 10 }
     {
-        (OWN_ENTRY + entry_len(self.info)).max(LEAST_BEGIN)
+        (OWN_ENTRY + entry_len(self.info)).max(CONTENTS)
     }
 
     /// How many bytes its data has without padding.

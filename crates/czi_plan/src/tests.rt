@@ -22,7 +22,7 @@ use std::alloc::{AllocError, Global};
 use std::test::Fail;
 
 // Bytes at a place.
-type Part = (usize, &'static [u8]);
+pub(crate) type Part = (usize, &'static [u8]);
 
 // A document of one subblock in an image of 1280 bytes: 160 bytes at 544 are DELETED, the subblock stands at 704 and
 // the directory at 1024.
@@ -66,7 +66,7 @@ fn put(image: &mut Vec<u8>, parts: &[Part]) {
 }
 
 // The index of the document with some of its bytes written over, in a file of so many bytes.
-fn index_of(alloc: Global, len: usize, changes: &[Part]) -> Result<Index, Fail> {
+pub(crate) fn index_of(alloc: Global, len: usize, changes: &[Part]) -> Result<Index, Fail> {
     let mut image = vec![in alloc; 0u8; len]?;
     put(&mut image, &DOCUMENT);
     put(&mut image, changes);
@@ -76,7 +76,7 @@ fn index_of(alloc: Global, len: usize, changes: &[Part]) -> Result<Index, Fail> 
 }
 
 // The map of an index, with nothing held back.
-fn map_of(alloc: Global, index: &Index) -> Result<Map, AllocError>
+pub(crate) fn map_of(alloc: Global, index: &Index) -> Result<Map, AllocError>
     ensures { IfOk result (IsMapOf index.now) }
 {
     let extents = index.extents.as_slice().to_vec(alloc)?;
@@ -132,7 +132,11 @@ fn planned(alloc: Global, index: &Index, dims: &[u8]) -> Result<Result<Removal, 
 }
 
 // The bytes of a plan's first write.
-fn first_write(alloc: Global, region: &Region, plan: &EditPlan) -> Result<Vec<u8>, AllocError>
+pub(crate) fn first_write(
+    alloc: Global,
+    region: &Region,
+    plan: &EditPlan,
+) -> Result<Vec<u8>, AllocError>
     requires { AllByRecursion (λ w. IsPiece region.now w.1) plan.now.writes.items }
 {
     let writes = plan.writes.as_slice();
@@ -723,7 +727,7 @@ const ROWS: [Row; 7] = [
     },
 ];
 
-fn pairs_of(alloc: Global, spans: &[Span]) -> Result<Vec<(u64, u64)>, AllocError> {
+pub(crate) fn pairs_of(alloc: Global, spans: &[Span]) -> Result<Vec<(u64, u64)>, AllocError> {
     let mut pairs = Vec::new(alloc);
     for span in spans {
         pairs.push((span.at, span.len))?;
@@ -731,7 +735,7 @@ fn pairs_of(alloc: Global, spans: &[Span]) -> Result<Vec<(u64, u64)>, AllocError
     Ok(pairs)
 }
 
-fn places_of(alloc: Global, plan: &EditPlan) -> Result<Vec<(u64, usize)>, AllocError> {
+pub(crate) fn places_of(alloc: Global, plan: &EditPlan) -> Result<Vec<(u64, usize)>, AllocError> {
     let mut places = Vec::new(alloc);
     for i in 0..plan.links.count() {
         let (place, bytes) = plan.links.link(i);

@@ -4,9 +4,12 @@ ghost use Rattle.std.specs.Prelude.{◌≡◌, ◌+◌, ◌-◌, ◌*◌, ◌^�
 ghost use Rattle.czi_format.specs.Entry.{Entry, entry_len};
 ghost use Rattle.czi_image.specs.Change.{AreWithin};
 ghost use Rattle.czi_plan.specs.Changing.{back_entries, front_entries, middle_entries, tiles_before, tiles_behind, tiles_brought, tiles_leaving};
-ghost use Rattle.czi_plan.specs.Directory.{AreSizes, back_of, entries_of, listed_back, listed_front, listed_middle, middle_of};
+ghost use Rattle.czi_plan.specs.Listing.{AreSizes};
+ghost use Rattle.czi_plan.specs.Directory.{back_of, entries_of, listed_back, listed_front, listed_middle, middle_of};
+ghost use Rattle.czi_plan.specs.Kind.{of_subblocks};
 
 use czi_dv::entry_len;
+use czi_format::{DIRECTORY_FRONT, LONGEST_ENTRY};
 use czi_image::{Act, Tile};
 use std::slice;
 
@@ -44,24 +47,24 @@ pub struct Listing<'a> {
     pub still: &'a [Tile],
 }
 
-/// What an act does with a list of subblocks.
-#[derive(Clone, Copy)]
-pub struct Parts<'a> {
-    /// Those before its place.
-    pub before: &'a [Tile],
+/// What an act does with a list.
+#[derive(Drop)]
+pub struct Parts<'a, T> {
+    /// What stands before its place.
+    pub before: &'a [T],
     /// What it brings there.
-    pub brought: &'a [Tile],
+    pub brought: &'a [T],
     /// What leaves there.
-    pub leaving: &'a [Tile],
-    /// Those behind it.
-    pub behind: &'a [Tile],
+    pub leaving: &'a [T],
+    /// What stands behind it.
+    pub behind: &'a [T],
 }
 
 /// How many bytes the entries of these subblocks have.
 pub fn entries_len(tiles: &[Tile]) -> usize
     requires { length tiles.now ≤ 2 ^ 20 }
     ensures len { result ≡ sum (map entry_len (entries_of tiles.now)) }
-    ensures bound { result ≤ 832 * length tiles.now }
+    ensures bound { result ≤ LONGEST_ENTRY * length tiles.now }
 {
     let mut len = 0;
     for tile in tiles {
@@ -83,17 +86,17 @@ fn len_before(tiles: &[Tile], total: usize, from: usize, rest: usize) -> usize
 /// How long the parts are once those from one place up to another leave, and entries of so many bytes come there.
 pub fn sizes_after(tiles: &[Tile], total: usize, from: usize, to: usize, brought: usize) -> Sizes
     requires total { total ≡ sum (map entry_len (entries_of tiles.now)) }
-    requires most { total ≤ 832 * length tiles.now }
+    requires most { total ≤ LONGEST_ENTRY * length tiles.now }
     requires few { length tiles.now ≤ 2 ^ 20 }
     requires order { from ≤ to }
     requires inside { to ≤ length tiles.now }
-    requires small { brought ≤ 832 }
-    ensures sizes { (come : List Entry) → sum (map entry_len come) ≡ brought → AreSizes result (entries_of (take from tiles.now)) (middle_of come (entries_of (take (to - from) (drop from tiles.now))) (entries_of (drop to tiles.now))) (back_of come (entries_of (take (to - from) (drop from tiles.now))) (entries_of (drop to tiles.now))) }
+    requires small { brought ≤ LONGEST_ENTRY }
+    ensures sizes { (come : List Entry) → sum (map entry_len come) ≡ brought → AreSizes of_subblocks result (entries_of (take from tiles.now)) (middle_of come (entries_of (take (to - from) (drop from tiles.now))) (entries_of (drop to tiles.now))) (back_of come (entries_of (take (to - from) (drop from tiles.now))) (entries_of (drop to tiles.now))) }
     ensures bound { result.front + result.middle + result.back ≤ 2 ^ 40 }
 {
     let leaving = entries_len(&tiles[from..to]);
     let behind = entries_len(&tiles[to..]);
-    let front = 128 + len_before(tiles, total, from, leaving + behind);
+    let front = DIRECTORY_FRONT + len_before(tiles, total, from, leaving + behind);
     if brought == leaving {
         Sizes {
             front,
@@ -109,30 +112,41 @@ pub fn sizes_after(tiles: &[Tile], total: usize, from: usize, to: usize, brought
     }
 }
 
-/// The parts of an act on a list of subblocks.
-pub fn parts_of<'a>(act: &'a Act<Tile>, tiles: &'a [Tile]) -> Parts<'a>
-    requires { AreWithin (act.now ∷ []) (length tiles.now) }
-    ensures before { result.before.now ≡ tiles_before act.now tiles.now }
-    ensures brought { result.brought.now ≡ tiles_brought act.now }
-    ensures leaving { result.leaving.now ≡ tiles_leaving act.now tiles.now }
-    ensures behind { result.behind.now ≡ tiles_behind act.now tiles.now }
+/// What an act brings to a list of subblocks.
+pub fn brought_tiles<'a>(act: &'a Act<Tile>, tiles: &'a [Tile]) -> &'a [Tile]
+    ensures { result.now ≡ tiles_brought act.now }
 {
-    let (from, to, brought) = match act {
-        Act::Out(i) => (*i, *i + 1, &tiles[..0]),
-        Act::Put(i, tile) => (*i, *i + 1, slice::from_ref(tile)),
-        Act::Into(i, tile) => (*i, *i, slice::from_ref(tile)),
+    match act {
+        Act::Out(_) => &tiles[..0],
+        Act::Put(_, tile) | Act::Into(_, tile) => slice::from_ref(tile),
+    }
+}
+
+/// The parts of an act on a list, to which it brings these items.
+pub fn parts_of<'a, T>(act: &Act<T>, brought: &'a [T], items: &'a [T]) -> Parts<'a, T>
+    requires within { AreWithin (act.now ∷ []) (length items.now) }
+    requires brings { brought.now ≡ tiles_brought act.now }
+    ensures before { result.before.now ≡ tiles_before act.now items.now }
+    ensures brought { result.brought.now ≡ tiles_brought act.now }
+    ensures leaving { result.leaving.now ≡ tiles_leaving act.now items.now }
+    ensures behind { result.behind.now ≡ tiles_behind act.now items.now }
+{
+    let (from, to) = match act {
+        Act::Out(i) => (*i, *i + 1),
+        Act::Put(i, _) => (*i, *i + 1),
+        Act::Into(i, _) => (*i, *i),
     };
     Parts {
-        before: &tiles[..from],
+        before: &items[..from],
         brought,
-        leaving: &tiles[from..to],
-        behind: &tiles[to..],
+        leaving: &items[from..to],
+        behind: &items[to..],
     }
 }
 
 /// What a directory lists after an act with these parts: what is behind moves, unless as many bytes of entries come as
 /// leave.
-pub fn listing_of<'a>(parts: &Parts<'a>) -> Listing<'a>
+pub fn listing_of<'a>(parts: &Parts<'a, Tile>) -> Listing<'a>
     requires brought { length parts.now.brought.now ≤ 1 }
     requires leaving { length parts.now.leaving.now ≤ 1 }
     ensures front { listed_front result ≡ entries_of parts.now.before.now }

@@ -1,30 +1,13 @@
-use Rattle.std.proofs.Common.{◌≡◌, ◌++◌, List, map, length, not, ap, sym, ◌∙◌, arith}
-use Rattle.czi_format.specs.Layout.{Place}
-use Rattle.czi_format.specs.Span.{span_le, sorted}
+use Rattle.std.proofs.Common.{◌≡◌, ◌++◌, List, map, ap, ◌∙◌}
 use Rattle.czi_image.specs.Holds.{tile_place}
 use Rattle.czi_num.specs.Span.{span_of}
 use Rattle.czi_num.specs.declared.span.Span.{Span as CodeSpan}
-use Rattle.czi_plan.specs.Plan.{dead_of, left_directory, usable_of}
-use Rattle.czi_machine.specs.Places.{can_be_used}
-use Rattle.czi_plan.proofs.Order.{taken_whole}
-use Rattle.czi_plan.proofs.Parts.{spans_split}
+use Rattle.czi_plan.specs.Plan.{dead_of, usable_of}
 use Rattle.czi_plan.proofs.changing.release_left.Goals as goal
 
 pub returns-clause-freed : goal.returns-clause-freed
 returns-clause-freed c =
-    let left : List Place = map tile_place c.args.leaving.now in
-    let gone : List Place = left_directory c.args.change.now c.args.directory.now in
-    let first : map span_of c.release_tiles.new.freed.items ≡ usable_of left = c.in_ok-release_tiles.ensures.freed ∙ ap (λ (l : List CodeSpan). map span_of l ++ usable_of left) c.requires.no_held in
-    let both : c.extend_from_slice.new.self.items ≡ c.release_tiles.new.freed.items = c.in_ok-extend_from_slice.ensures.items ∙ (λ j. c.requires.no_freed j ++ c.deref.ensures.value j) in
-    let freed : map span_of c.release_directory.new.freed.items ≡ usable_of (left ++ gone)
-    = c.in_ok-release_directory.ensures.freed ∙ (ap (λ l. l ++ usable_of gone) (ap (map span_of) both ∙ first) ∙ sym (spans_split can_be_used left gone)) in
-    let long : length c.sort_spans.new.spans ≡ length c.release_directory.new.freed.items = c.sort_spans.auto.spans ∙ ap length c.deref_mut.ensures.value in
-    ap (map span_of) (taken_whole c.release_directory.new.freed.len c.sort_spans.new.spans c.release_directory.new.freed.items long (omega (arith, c.release_directory.new.freed.ok)))
-    ∙ (c.sort_spans.ensures ∙ ap (sorted span_le) (ap (map span_of) c.deref_mut.ensures.value ∙ freed))
+    c.in_ok-release_held.ensures.freed (map tile_place c.args.leaving.now) (ap (map span_of) c.deref.ensures.value ∙ (c.in_ok-release_tiles.ensures.freed ∙ ap (λ (l : List CodeSpan). map span_of l ++ usable_of (map tile_place c.args.leaving.now)) c.requires.no_held))
 
 pub returns-clause-dead : goal.returns-clause-dead
-returns-clause-dead c =
-    let left : List Place = map tile_place c.args.leaving.now in
-    let gone : List Place = left_directory c.args.change.now c.args.directory.now in
-    let first : map span_of c.release_tiles.new.dead.items ≡ dead_of left = c.in_ok-release_tiles.ensures.dead ∙ ap (λ (l : List CodeSpan). map span_of l ++ dead_of left) c.requires.no_dead in
-    c.in_ok-release_directory.ensures.dead ∙ (ap (λ l. l ++ dead_of gone) first ∙ sym (spans_split (λ (p : Place). not (can_be_used p)) left gone))
+returns-clause-dead c = c.in_ok-release_held.ensures.dead (map tile_place c.args.leaving.now) (c.in_ok-release_tiles.ensures.dead ∙ ap (λ (l : List CodeSpan). map span_of l ++ dead_of (map tile_place c.args.leaving.now)) c.requires.no_dead)

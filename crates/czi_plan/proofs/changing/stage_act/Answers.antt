@@ -12,7 +12,8 @@ use Rattle.czi_image.specs.declared.types.Tile.{Tile}
 use Rattle.czi_links.specs.Record.{Bytes}
 use Rattle.czi_num.specs.Span.{span_of}
 use Rattle.czi_region.specs.declared.block.Region.{Region}
-use Rattle.czi_plan.specs.Changing.{all_left, back_entries, front_entries, middle_entries, new_marks, tiles_before, tiles_behind, tiles_brought, tiles_leaving}
+use Rattle.czi_plan.specs.Kind.{of_subblocks}
+use Rattle.czi_plan.specs.Changing.{back_entries, front_entries, middle_entries, new_marks, tiles_before, tiles_behind, tiles_brought, tiles_leaving}
 use Rattle.czi_plan.specs.Directory.{back_of, entries_of, listed_back, listed_front, listed_middle, middle_of}
 use Rattle.czi_plan.specs.Listing.{Lists}
 use Rattle.czi_plan.specs.Marks.{mark_of}
@@ -20,54 +21,61 @@ use Rattle.czi_plan.specs.Plan.{dead_of, left_directory, usable_of}
 use Rattle.czi_plan.specs.declared.plan.EditPlan.{EditPlan}
 use Rattle.czi_plan.specs.declared.tiles.Listing.{Listing}
 use Rattle.czi_plan.specs.declared.tiles.Parts.{Parts}
-use Rattle.czi_plan.proofs.Brought.{brings_kept}
-use Rattle.czi_plan.proofs.Linking.{act_links, has_listed}
-use Rattle.czi_plan.proofs.Order.{sorted_again}
+use Rattle.czi_plan.proofs.ActStages.{in_place_order, left_as, links_act, lists_as, ready_as, same_change, sizes_as, stages_act}
+use Rattle.czi_plan.proofs.KindLaws.{tile_laws}
 use Rattle.czi_plan.proofs.changing.stage_act.Goals as goal
 
 -- what an act does with the subblocks of an index
-record AreParts (a : CodeAct Tile) (tiles : List Tile) (p : Parts) : Type 0 where
+record AreParts (a : CodeAct Tile) (tiles : List Tile) (p : Parts Tile) : Type 0 where
   before : p.before.now ≡ tiles_before a tiles
   brought : p.brought.now ≡ tiles_brought a
   leaving : p.leaving.now ≡ tiles_leaving a tiles
   behind : p.behind.now ≡ tiles_behind a tiles
 
 -- what is listed is what the directory lists after the act
-record IsListing (l : Listing) (p : Parts) : Type 0 where
+record IsListing (l : Listing) (p : Parts Tile) : Type 0 where
   front : listed_front l ≡ entries_of p.before.now
   middle : listed_middle l ≡ middle_of (entries_of p.brought.now) (entries_of p.leaving.now) (entries_of p.behind.now)
   back : listed_back l ≡ back_of (entries_of p.brought.now) (entries_of p.leaving.now) (entries_of p.behind.now)
 
-front_as : (a : CodeAct Tile) (tiles : List Tile) (p : Parts) (l : Listing) → AreParts a tiles p → IsListing l p → listed_front l ≡ front_entries a tiles
+front_as : (a : CodeAct Tile) (tiles : List Tile) (p : Parts Tile) (l : Listing) → AreParts a tiles p → IsListing l p → listed_front l ≡ front_entries of_subblocks a tiles
 front_as a tiles p l are is = is.front ∙ ap entries_of are.before
 
-middle_as : (a : CodeAct Tile) (tiles : List Tile) (p : Parts) (l : Listing) → AreParts a tiles p → IsListing l p → listed_middle l ≡ middle_entries a tiles
+middle_as : (a : CodeAct Tile) (tiles : List Tile) (p : Parts Tile) (l : Listing) → AreParts a tiles p → IsListing l p → listed_middle l ≡ middle_entries of_subblocks a tiles
 middle_as a tiles p l are is = is.middle ∙ (λ i. middle_of (entries_of (are.brought i)) (entries_of (are.leaving i)) (entries_of (are.behind i)))
 
-back_as : (a : CodeAct Tile) (tiles : List Tile) (p : Parts) (l : Listing) → AreParts a tiles p → IsListing l p → listed_back l ≡ back_entries a tiles
+back_as : (a : CodeAct Tile) (tiles : List Tile) (p : Parts Tile) (l : Listing) → AreParts a tiles p → IsListing l p → listed_back l ≡ back_entries of_subblocks a tiles
 back_as a tiles p l are is = is.back ∙ (λ i. back_of (entries_of (are.brought i)) (entries_of (are.leaving i)) (entries_of (are.behind i)))
 
-lists_as : (was : Option DirItem) (d : DirectoryChange) (f f' m m' b b' : List Entry) (region : Region) (p q : EditPlan) (before before' after : List Bytes) → f ≡ f' → m ≡ m' → b ≡ b' → before ≡ before'
-    → Lists was d f m b region p q before after → Lists was d f' m' b' region p q before' after
-lists_as was d f f' m m' b b' region p q before before' after ef em eb eo lists =
-    subst (λ z. Lists was d z m' b' region p q before' after) ef (subst (λ z. Lists was d f z b' region p q before' after) em (subst (λ z. Lists was d f m z region p q before' after) eb (subst (λ z. Lists was d f m b region p q z after) eo lists)))
-
-lists_for : (x : Index) (a : CodeAct Tile) (d : DirectoryChange) (tiles : List Tile) (ps : Parts) (l : Listing) (region : Region) (p q : EditPlan) (before after : List Bytes) → tiles ≡ x.tiles.items → AreParts a tiles ps → IsListing l ps → before ≡ new_marks a
-    → Lists x.directory d (listed_front l) (listed_middle l) (listed_back l) region p q before after
-    → Lists x.directory d (front_entries a x.tiles.items) (middle_entries a x.tiles.items) (back_entries a x.tiles.items) region p q (new_marks a) after
+lists_for : (x : Index) (a : CodeAct Tile) (d : DirectoryChange) (tiles : List Tile) (ps : Parts Tile) (l : Listing) (region : Region) (p q : EditPlan) (before after : List Bytes) → tiles ≡ x.tiles.items → AreParts a tiles ps → IsListing l ps → before ≡ new_marks of_subblocks a
+    → Lists of_subblocks x.directory d (listed_front l) (listed_middle l) (listed_back l) region p q before after
+    → Lists of_subblocks x.directory d (front_entries of_subblocks a x.tiles.items) (middle_entries of_subblocks a x.tiles.items) (back_entries of_subblocks a x.tiles.items) region p q (new_marks of_subblocks a) after
 lists_for x a d tiles ps l region p q before after same are is marks lists =
-    lists_as x.directory d _ (front_entries a x.tiles.items) _ (middle_entries a x.tiles.items) _ (back_entries a x.tiles.items) region p q before (new_marks a) after
-    (front_as a tiles ps l are is ∙ ap (front_entries a) same) (middle_as a tiles ps l are is ∙ ap (middle_entries a) same) (back_as a tiles ps l are is ∙ ap (back_entries a) same) marks lists
+    lists_as of_subblocks x.directory d _ (front_entries of_subblocks a x.tiles.items) _ (middle_entries of_subblocks a x.tiles.items) _ (back_entries of_subblocks a x.tiles.items) region p q before (new_marks of_subblocks a) after
+    (front_as a tiles ps l are is ∙ ap (front_entries of_subblocks a) same) (middle_as a tiles ps l are is ∙ ap (middle_entries of_subblocks a) same) (back_as a tiles ps l are is ∙ ap (back_entries of_subblocks a) same) marks lists
 
-leaving_as : (a : CodeAct Tile) (tiles tiles' : List Tile) (p : Parts) → tiles ≡ tiles' → AreParts a tiles p → p.leaving.now ≡ tiles_leaving a tiles'
+leaving_as : (a : CodeAct Tile) (tiles tiles' : List Tile) (p : Parts Tile) → tiles ≡ tiles' → AreParts a tiles p → p.leaving.now ≡ tiles_leaving a tiles'
 leaving_as a tiles tiles' p e are = are.leaving ∙ ap (tiles_leaving a) e
 
--- what leaves, with a directory for which there is a new one
-left_as : {X : Type 0} (f : List Place → X) (a : CodeAct Tile) (d e : DirectoryChange) (x : Index) (left : List Tile) → left ≡ tiles_leaving a x.tiles.items → e ≡ d → f (map tile_place left ++ left_directory e x.directory) ≡ f (all_left a d x)
-left_as f a d e x left same change = λ i. f (map tile_place (same i) ++ left_directory (change i) x.directory)
+pub list_tiles-requires-clause-sizes : goal.list_tiles-requires-clause-sizes
+list_tiles-requires-clause-sizes c =
+    let tiles : List Tile = c.args.index.now.tiles.items in
+    let a : CodeAct Tile = c.args.act in
+    let are : AreParts a c.deref-2.result.now c.parts_of-parts.result = record { before = c.parts_of-parts.ensures.before; brought = c.parts_of-parts.ensures.brought; leaving = c.parts_of-parts.ensures.leaving; behind = c.parts_of-parts.ensures.behind } in
+    let is : IsListing c.listing_of-listing.result c.parts_of-parts.result = record { front = c.listing_of-listing.ensures.front; middle = c.listing_of-listing.ensures.middle; back = c.listing_of-listing.ensures.back } in
+    let same = c.deref-2.ensures.value in
+    sizes_as of_subblocks c.args.sizes.now _ (front_entries of_subblocks a tiles) _ (middle_entries of_subblocks a tiles) _ (back_entries of_subblocks a tiles) (front_as a _ _ _ are is ∙ ap (front_entries of_subblocks a) same)
+    (middle_as a _ _ _ are is ∙ ap (middle_entries of_subblocks a) same) (back_as a _ _ _ are is ∙ ap (back_entries of_subblocks a) same) c.requires.sizes
 
-in_place_order : (xs ys : List Span) → xs ≡ sorted span_le ys → sorted span_le xs ≡ xs
-in_place_order xs ys e = ap (sorted span_le) e ∙ (sorted_again ys ∙ sym e)
+pub list_tiles-requires-clause-ready : goal.list_tiles-requires-clause-ready
+list_tiles-requires-clause-ready c =
+    let tiles : List Tile = c.args.index.now.tiles.items in
+    let a : CodeAct Tile = c.args.act in
+    let are : AreParts a c.deref-2.result.now c.parts_of-parts.result = record { before = c.parts_of-parts.ensures.before; brought = c.parts_of-parts.ensures.brought; leaving = c.parts_of-parts.ensures.leaving; behind = c.parts_of-parts.ensures.behind } in
+    let is : IsListing c.listing_of-listing.result c.parts_of-parts.result = record { front = c.listing_of-listing.ensures.front; middle = c.listing_of-listing.ensures.middle; back = c.listing_of-listing.ensures.back } in
+    let same = c.deref-2.ensures.value in
+    rw (front_as a _ _ _ are is ∙ ap (front_entries of_subblocks a) same, middle_as a _ _ _ are is ∙ ap (middle_entries of_subblocks a) same, back_as a _ _ _ are is ∙ ap (back_entries of_subblocks a) same)
+    (ready_as c.args.index.now c.args.index.now.directory _ _ _ _ c.args.out.now.change.directory c.requires.place c.requires.room)
 
 pub link-requires-clause-in_order : goal.link-requires-clause-in_order
 link-requires-clause-in_order c =
@@ -78,18 +86,15 @@ link-requires-clause-can c =
     let x : Index = c.args.index.now in
     let a : CodeAct Tile = c.args.act in
     let d : DirectoryChange = c.args.out.now.change.directory in
-    let are : AreParts a c.deref.result.now c.parts_of-parts.result = record { before = c.parts_of-parts.ensures.before; brought = c.parts_of-parts.ensures.brought; leaving = c.parts_of-parts.ensures.leaving; behind = c.parts_of-parts.ensures.behind } in
+    let are : AreParts a c.deref-2.result.now c.parts_of-parts.result = record { before = c.parts_of-parts.ensures.before; brought = c.parts_of-parts.ensures.brought; leaving = c.parts_of-parts.ensures.leaving; behind = c.parts_of-parts.ensures.behind } in
     let is : IsListing c.listing_of-listing.result c.parts_of-parts.result = record { front = c.listing_of-listing.ensures.front; middle = c.listing_of-listing.ensures.middle; back = c.listing_of-listing.ensures.back } in
-    let lists = lists_for x a d c.deref.result.now c.parts_of-parts.result c.listing_of-listing.result c.list_tiles.new.region c.args.out.now c.list_tiles.new.out _ _ c.deref.ensures.value are is c.requires.marks c.in_ok-list_tiles.ensures.lists in
-    let has = has_listed c.list_tiles.new.region x.directory d _ _ _ c.args.out.now c.list_tiles.new.out (new_marks a) (map mark_of c.list_tiles.new.marks.items) lists in
-    let same : c.list_tiles.new.out.change.directory ≡ d = ap (λ (p : EditPlan). p.change.directory) has.others in
-    let left = leaving_as a c.deref.result.now x.tiles.items c.parts_of-parts.result c.deref.ensures.value are in
+    let lists = lists_for x a d c.deref-2.result.now c.parts_of-parts.result c.listing_of-listing.result c.list_tiles.new.region c.args.out.now c.list_tiles.new.out _ _ c.deref-2.ensures.value are is c.requires.marks c.in_ok-list_tiles.ensures.lists in
+    let same : c.list_tiles.new.out.change.directory ≡ d = ap (λ (v : Change). v.directory) (same_change tile_laws a d c.args.region.now c.list_tiles.new.region c.args.out.now c.list_tiles.new.out (map mark_of c.list_tiles.new.marks.items) c.requires.of_index c.requires.starts c.requires.place c.list_tiles.ensures.kept lists) in
+    let left = leaving_as a c.deref-2.result.now x.tiles.items c.parts_of-parts.result c.deref-2.ensures.value are in
     rw (
-      c.in_ok-release_left.ensures.freed ∙ left_as (λ l. sorted span_le (usable_of l)) a d _ x _ left same,
-      ap (map span_of) c.deref-2.ensures.value ∙ (c.in_ok-release_left.ensures.dead ∙ left_as dead_of a d _ x _ left same),
-    ) (act_links x c.args.space.now a c.requires.brings.0 c.list_tiles.new.region d c.args.out.now c.list_tiles.new.out (map mark_of c.list_tiles.new.marks.items) c.requires.of_index
-    (brings_kept x c.args.space.now c.args.region.now c.list_tiles.new.region a c.requires.brings.0 c.args.out.now.writes.items c.list_tiles.ensures.kept c.requires.brings.1)
-    c.requires.starts.used c.requires.place lists)
+      c.in_ok-release_left.ensures.freed ∙ left_as of_subblocks (λ l. sorted span_le (usable_of l)) a d _ x _ left same,
+      ap (map span_of) c.deref-3.ensures.value ∙ (c.in_ok-release_left.ensures.dead ∙ left_as of_subblocks dead_of a d _ x _ left same),
+    ) (links_act tile_laws a d c.args.region.now c.list_tiles.new.region c.args.out.now c.list_tiles.new.out (map mark_of c.list_tiles.new.marks.items) c.requires.of_index c.requires.starts c.requires.place c.list_tiles.ensures.kept lists c.requires.brings.0 c.requires.brings.1)
 
 pub returns : goal.returns
 returns c =
@@ -97,37 +102,28 @@ returns c =
     let x : Index = c.args.index.now in
     let a : CodeAct Tile = c.args.act in
     let d : DirectoryChange = c.args.out.now.change.directory in
-    let are : AreParts a c.deref.result.now c.parts_of-parts.result = record { before = c.parts_of-parts.ensures.before; brought = c.parts_of-parts.ensures.brought; leaving = c.parts_of-parts.ensures.leaving; behind = c.parts_of-parts.ensures.behind } in
+    let are : AreParts a c.deref-2.result.now c.parts_of-parts.result = record { before = c.parts_of-parts.ensures.before; brought = c.parts_of-parts.ensures.brought; leaving = c.parts_of-parts.ensures.leaving; behind = c.parts_of-parts.ensures.behind } in
     let is : IsListing c.listing_of-listing.result c.parts_of-parts.result = record { front = c.listing_of-listing.ensures.front; middle = c.listing_of-listing.ensures.middle; back = c.listing_of-listing.ensures.back } in
-    let lists = lists_for x a d c.deref.result.now c.parts_of-parts.result c.listing_of-listing.result c.list_tiles.new.region c.args.out.now c.list_tiles.new.out _ _ c.deref.ensures.value are is c.requires.marks c.in_ok-list_tiles.ensures.lists in
-    let has = has_listed c.list_tiles.new.region x.directory d _ _ _ c.args.out.now c.list_tiles.new.out (new_marks a) (map mark_of c.list_tiles.new.marks.items) lists in
-    let same : c.list_tiles.new.out.change ≡ c.args.out.now.change = ap (λ (p : EditPlan). p.change) has.others in
-    let left = leaving_as a c.deref.result.now x.tiles.items c.parts_of-parts.result c.deref.ensures.value are in
+    let lists = lists_for x a d c.deref-2.result.now c.parts_of-parts.result c.listing_of-listing.result c.list_tiles.new.region c.args.out.now c.list_tiles.new.out _ _ c.deref-2.ensures.value are is c.requires.marks c.in_ok-list_tiles.ensures.lists in
+    let same = same_change tile_laws a d c.args.region.now c.list_tiles.new.region c.args.out.now c.list_tiles.new.out (map mark_of c.list_tiles.new.marks.items) c.requires.of_index c.requires.starts c.requires.place c.list_tiles.ensures.kept lists in
+    let left = leaving_as a c.deref-2.result.now x.tiles.items c.parts_of-parts.result c.deref-2.ensures.value are in
     let other = c.in_ok-link.ensures.others in
     let becomes : c.link.new.out.change ≡ c.args.out.now.change = ap (λ (p : EditPlan). p.change) other ∙ same in
     let directory : c.list_tiles.new.out.change.directory ≡ d = ap (λ (v : Change). v.directory) same in
-    record {
-      within = c.requires.within;
-      few = c.requires.few;
-      first = c.args.out.now;
-      brings = brings_kept x c.args.space.now c.args.region.now c.list_tiles.new.region a change c.args.out.now.writes.items c.list_tiles.ensures.kept brings;
-      first_used = c.requires.starts.used;
-      first_length = c.requires.starts.length;
-      mid = c.list_tiles.new.out;
-      marks = map mark_of c.list_tiles.new.marks.items;
-      place = c.requires.place;
-      lists = lists;
+    stages_act tile_laws a d c.args.region.now c.list_tiles.new.region c.args.out.now c.list_tiles.new.out (map mark_of c.list_tiles.new.marks.items) c.requires.of_index c.requires.starts c.requires.place c.list_tiles.ensures.kept lists change _ brings c.requires.within c.requires.few (record {
       writes = ap (λ (p : EditPlan). p.writes) other;
       used = ap (λ (p : EditPlan). p.used) other;
       length = ap (λ (p : EditPlan). p.length) other;
-      directory = ap (λ (v : Change). v.directory) becomes;
-      acts = c.in_ok-push.ensures.items ∙ ap (λ l. l ++ a ∷ []) (ap (λ (v : Change). v.tiles.items) becomes ∙ c.requires.starts.tiles);
-      attdir = ap (λ (v : Change). v.attdir) becomes ∙ c.requires.starts.attdir;
-      attachments = ap (λ (v : Change). v.attachments.items) becomes ∙ c.requires.starts.attachments;
-      metadata = ap (λ (v : Change). v.metadata) becomes ∙ c.requires.starts.metadata;
+      change = record {
+        directory = ap (λ (v : Change). v.directory) becomes;
+        tiles = c.in_ok-push.ensures.items ∙ ap (λ l. l ++ a ∷ []) (ap (λ (v : Change). v.tiles.items) becomes ∙ c.requires.starts.tiles);
+        attdir = ap (λ (v : Change). v.attdir) becomes ∙ c.requires.starts.other;
+        attachments = ap (λ (v : Change). v.attachments.items) becomes ∙ c.requires.starts.attachments;
+        metadata = ap (λ (v : Change). v.metadata) becomes ∙ c.requires.starts.metadata;
+      };
       held = ap (λ (p : EditPlan). map span_of p.held.items) other ∙ (c.in_ok-release_left.ensures.held ∙ ap (λ l. usable_of (map tile_place l)) left);
-      freed = ap (λ (p : EditPlan). map span_of p.freed.items) other ∙ (c.in_ok-release_left.ensures.freed ∙ left_as (λ l. sorted span_le (usable_of l)) a d _ x _ left directory);
-      dead = c.deref-2.result.now;
-      is_dead = ap (map span_of) c.deref-2.ensures.value ∙ (c.in_ok-release_left.ensures.dead ∙ left_as dead_of a d _ x _ left directory);
+      freed = ap (λ (p : EditPlan). map span_of p.freed.items) other ∙ (c.in_ok-release_left.ensures.freed ∙ left_as of_subblocks (λ l. sorted span_le (usable_of l)) a d _ x _ left directory);
+      dead = c.deref-3.result.now;
+      is_dead = ap (map span_of) c.deref-3.ensures.value ∙ (c.in_ok-release_left.ensures.dead ∙ left_as of_subblocks dead_of a d _ x _ left directory);
       links = rw (ap (λ (p : EditPlan). map span_of p.used.items) other, ap (λ (p : EditPlan). map span_of p.freed.items) other) c.in_ok-link.ensures.linked;
-    }
+    })

@@ -1,25 +1,31 @@
-use Rattle.std.proofs.Common.{◌-◌, refl, ◌∙◌}
+use Rattle.std.proofs.Common.{◌≡◌, ◌+◌, ◌-◌, ◌++◌, ◌∷◌, [], List, ap, ◌∙◌, map}
+use Rattle.czi_format.specs.Segment.{directory_id}
+use Rattle.czi_links.specs.Record.{Bytes}
 use Rattle.czi_plan.specs.Directory.{listed_back, listed_front, listed_middle}
-use Rattle.czi_plan.proofs.Entries.{length-directory, sizes_total, two_marks}
+use Rattle.czi_plan.specs.Kind.{of_subblocks}
+use Rattle.czi_plan.specs.Marks.{head_mark, mark_of, pointer_mark}
+use Rattle.czi_plan.proofs.Entries.{length-directory, sizes_total}
 use Rattle.czi_plan.proofs.listing.write_tiles.Goals as goal
 
-pub mark_header-requires-clause-id : goal.mark_header-requires-clause-id
-mark_header-requires-clause-id c = length-directory
+pub put_directory-requires-clause-id : goal.put_directory-requires-clause-id
+put_directory-requires-clause-id c = length-directory
 
 pub returns-clause-writes : goal.returns-clause-writes
 returns-clause-writes c =
     let st = c.stage_directory-piece.ensures in
+    let put = c.in_ok-put_directory.ensures in
     let l = c.args.listing.now in
+    let d = c.args.directory.now in
     record {
       piece = c.stage_directory-piece.result;
       staged = st.staged.inside;
       long = st.whole;
       bytes = st.staged.reads;
       entries = st.entries;
-      writes = c.in_ok-push.ensures.items;
-      used = c.in_ok-push-2.ensures.items;
-      end = c.max-out.ensures;
-      others = refl;
-      marks = two_marks _ _ _ c.args.directory.now.span.at (c.args.directory.now.span.len - 32) _ _ c.in_ok-mark_pointer.ensures.marks c.in_ok-mark_header.ensures.marks
-          (c.total.ensures ∙ sizes_total c.args.sizes.now (listed_front l) (listed_middle l) (listed_back l) c.requires.sizes);
+      writes = put.writes;
+      used = put.used;
+      end = put.end;
+      others = put.others;
+      marks = put.marks ∙ ap (λ n. map mark_of c.args.marks.now.items ++ pointer_mark 84 d.span.at ∷ head_mark (record { at = d.span.at; id = directory_id; allocated = d.span.len - 32; used = n }) ∷ [])
+          (c.total.ensures ∙ sizes_total of_subblocks c.args.sizes.now (listed_front l) (listed_middle l) (listed_back l) c.requires.sizes);
     }

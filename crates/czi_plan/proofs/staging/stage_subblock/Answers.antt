@@ -6,7 +6,7 @@ use Rattle.czi_format.specs.Entry.{EntryInfo, entry_len}
 use Rattle.czi_image.specs.View.{tile_of}
 use Rattle.czi_plan.specs.Bringing.{subblock_of}
 use Rattle.czi_plan.proofs.Brought.{is_subblock}
-use Rattle.czi_plan.proofs.Linking.{length-subblock}
+use Rattle.czi_plan.proofs.KindLaws.{length-subblock}
 use Rattle.czi_plan.proofs.staging.stage_subblock.Goals as goal
 
 pub mark_header-requires-clause-id : goal.mark_header-requires-clause-id

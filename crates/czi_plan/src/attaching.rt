@@ -1,0 +1,187 @@
+//! The plans of attachments.
+
+ghost use Rattle.std.specs.Prelude.{◌≡◌, ℕ, ◌+◌, ◌^◌, ◌<◌, ◌≤◌, ◌∷◌, [], Some, length, map, IfErr, OnOk, IsSome, bytes_eq};
+ghost use Rattle.czi_doc.specs.View.{att_of};
+ghost use Rattle.czi_format.specs.Key.{attachment_key};
+ghost use Rattle.czi_image.specs.Change.{act_of};
+ghost use Rattle.czi_image.specs.View.{att_item_of};
+ghost use Rattle.czi_image.specs.declared.change.Act.TheVariants.{Out};
+ghost use Rattle.czi_machine.specs.Change.{into, out as taken_out, put};
+ghost use Rattle.czi_machine.specs.Edit.{in_attachments};
+ghost use Rattle.czi_region.specs.Pieces.{bytes_put};
+ghost use Rattle.czi_space.specs.State.{space_of};
+ghost use Rattle.czi_plan.specs.Attaching.{attachment_in};
+ghost use Rattle.czi_plan.specs.Bringing.{IsSeat, act_at};
+ghost use Rattle.czi_plan.specs.Changing.{Stages, Starts, range_after, size_after};
+ghost use Rattle.czi_plan.specs.Conditions.{IsEmpty, IsMapOf};
+ghost use Rattle.czi_plan.specs.Does.{Does, HasNoPlan};
+ghost use Rattle.czi_plan.specs.Kind.{of_attachments};
+ghost use Rattle.czi_plan.specs.Listing.{IsPlace};
+ghost use Rattle.czi_plan.specs.Plan.{IsPlan};
+ghost use Rattle.czi_plan.specs.Search.{attachment_with};
+
+use crate::attachment_acts::{new_attachment, stage_attached, stage_attachment_act};
+use crate::attachments::{att_parts, att_sizes};
+use crate::bringing::Seat;
+use crate::changing::make_room;
+use crate::listing::plan_directory;
+use crate::placing::place;
+use crate::plan::{EditPlan, PlanFault};
+use czi_att::att_size;
+use czi_doc::{AttInfo, DATA_LIMIT};
+use czi_image::{Act, Index};
+use czi_region::Region;
+use czi_space::Map;
+use std::alloc::{AllocError, Global};
+
+/// Plans what the removal of the attachment at a place writes, once it is known what becomes of the directory.
+fn stage_detachment(
+    alloc: Global,
+    index: &Index,
+    space: &Map,
+    i: usize,
+    region: &mut Region,
+    out: &mut EditPlan,
+) -> Result<(), AllocError>
+    requires starts { Starts of_attachments space.now [] out.old }
+    requires no_writes { out.old.writes.items ≡ [] }
+    requires reset { bytes_put region.old ≡ [] }
+    requires of_index { IsMapOf index.now space.now }
+    requires inside { i < length index.now.attachments.items }
+    requires place { IsPlace index.now index.now.attdir (size_after of_attachments (Out i) index.now) (range_after of_attachments (Out i) index.now) (space_of space.now) out.old.change.attdir }
+    ensures { OnOk result (Stages of_attachments index.now space.now (Out i) (taken_out i) region.new out.old.change.attdir out.new) }
+{
+    make_room(0, &out.change.attdir, region)?;
+    let marks = Vec::new(alloc);
+    stage_attachment_act(alloc, index, space, Act::Out(i), marks, region, out)
+}
+
+/// Plans the removal of the attachment at a place of the directory, as `plan_detach` does.
+///
+/// # Errors
+///
+/// `Full` exactly where the directory isn't changed in place and a new one has no place, and else `Memory`. Nothing is
+/// said of `region` and `out` then.
+pub fn plan_detach_at(
+    alloc: Global,
+    index: &Index,
+    space: &Map,
+    i: usize,
+    region: &mut Region,
+    out: &mut EditPlan,
+) -> Result<(), PlanFault>
+    requires empty { IsEmpty out.old }
+    requires reset { bytes_put region.old ≡ [] }
+    requires of_index { IsMapOf index.now space.now }
+    requires inside { i < length index.now.attachments.items }
+    ensures plan { OnOk result (IsPlan index.now space.now region.new out.new) }
+    ensures does { OnOk result (Does index.now space.now region.new out.new (in_attachments (taken_out i))) }
+    ensures held { OnOk result (length out.new.held.items ≤ 1) }
+    ensures full { IfErr result (HasNoPlan index.now space.now (in_attachments (taken_out i))) }
+{
+    out.length = space.length();
+    let act = Act::Out(i);
+    let parts = att_parts(&act, &index.attachments);
+    let sizes = att_sizes(&parts);
+    let (size, range) = (sizes.total(), sizes.middle);
+    out.change.attdir = plan_directory(index, space, &[], &index.attdir, size, range)?;
+    stage_detachment(alloc, index, space, i, region, out)?;
+    Ok(())
+}
+
+/// Plans an edit that brings an attachment: its place is found, then that of the directory in the space that is left, and
+/// only then memory is asked for.
+fn plan_attached(
+    alloc: Global,
+    index: &Index,
+    space: &Map,
+    seat: Seat,
+    info: &AttInfo,
+    bytes: &[u8],
+    region: &mut Region,
+    out: &mut EditPlan,
+) -> Result<(), PlanFault>
+    requires empty { IsEmpty out.old }
+    requires reset { bytes_put region.old ≡ [] }
+    requires of_index { IsMapOf index.now space.now }
+    requires seat { IsSeat seat (length index.now.attachments.items) (2 ^ 12) }
+    requires bytes { length bytes.now ≤ DATA_LIMIT }
+    ensures plan { OnOk result (IsPlan index.now space.now region.new out.new) }
+    ensures does { OnOk result (Does index.now space.now region.new out.new (in_attachments (act_of (act_at seat (attachment_in info.now bytes.now))))) }
+    ensures held { OnOk result (length out.new.held.items ≤ 1) }
+    ensures full { IfErr result (HasNoPlan index.now space.now (in_attachments (act_of (act_at seat (attachment_in info.now bytes.now))))) }
+{
+    out.length = space.length();
+    let span = place(space, &[], 32 + att_size(bytes.len()) as u64)?;
+    let item = new_attachment(index, info, bytes.len(), span);
+    let act = seat.act(item);
+    let parts = att_parts(&act, &index.attachments);
+    let sizes = att_sizes(&parts);
+    let (size, range) = (sizes.total(), sizes.middle);
+    out.change.attdir = plan_directory(index, space, &[span], &index.attdir, size, range)?;
+    stage_attached(alloc, index, space, seat, &item, bytes, region, out)?;
+    Ok(())
+}
+
+/// Plans a new attachment, which comes behind all others.
+///
+/// The attachment goes where its need fits first, and then the directory is planned in the space that is left: in place where
+/// it has room for one entry more, of which nothing but that entry is written, and else a new one with room for more. The
+/// attachment's data are one write, from a piece of the region, into which the bytes are copied once, and its header is a
+/// link.
+///
+/// # Errors
+///
+/// `Full` exactly where the attachment or a new directory has no place, and else `Memory`. Nothing is said of `region` and
+/// `out` then.
+pub fn plan_attach(
+    alloc: Global,
+    index: &Index,
+    space: &Map,
+    info: &AttInfo,
+    bytes: &[u8],
+    region: &mut Region,
+    out: &mut EditPlan,
+) -> Result<(), PlanFault>
+    requires empty { IsEmpty out.old }
+    requires reset { bytes_put region.old ≡ [] }
+    requires of_index { IsMapOf index.now space.now }
+    requires few { length index.now.attachments.items < 2 ^ 12 }
+    requires bytes { length bytes.now ≤ DATA_LIMIT }
+    ensures plan { OnOk result (IsPlan index.now space.now region.new out.new) }
+    ensures does { OnOk result (Does index.now space.now region.new out.new (in_attachments (into (length index.now.attachments.items) (attachment_in info.now bytes.now)))) }
+    ensures held { OnOk result (length out.new.held.items ≤ 1) }
+    ensures full { IfErr result (HasNoPlan index.now space.now (in_attachments (into (length index.now.attachments.items) (attachment_in info.now bytes.now)))) }
+{
+    let seat = Seat::Before(index.attachments.len());
+    plan_attached(alloc, index, space, seat, info, bytes, region, out)
+}
+
+/// Plans the replacement of the attachment at a place of the directory, as `plan_reattach` does.
+///
+/// # Errors
+///
+/// `Full` exactly where the attachment or a new directory has no place, and else `Memory`. Nothing is said of `region` and
+/// `out` then.
+pub fn plan_reattach_at(
+    alloc: Global,
+    index: &Index,
+    space: &Map,
+    i: usize,
+    info: &AttInfo,
+    bytes: &[u8],
+    region: &mut Region,
+    out: &mut EditPlan,
+) -> Result<(), PlanFault>
+    requires empty { IsEmpty out.old }
+    requires reset { bytes_put region.old ≡ [] }
+    requires of_index { IsMapOf index.now space.now }
+    requires inside { i < length index.now.attachments.items }
+    requires bytes { length bytes.now ≤ DATA_LIMIT }
+    ensures plan { OnOk result (IsPlan index.now space.now region.new out.new) }
+    ensures does { OnOk result (Does index.now space.now region.new out.new (in_attachments (put i (attachment_in info.now bytes.now)))) }
+    ensures held { OnOk result (length out.new.held.items ≤ 1) }
+    ensures full { IfErr result (HasNoPlan index.now space.now (in_attachments (put i (attachment_in info.now bytes.now)))) }
+{
+    plan_attached(alloc, index, space, Seat::Over(i), info, bytes, region, out)
+}
