@@ -5,18 +5,18 @@ use Rattle.czi_format.specs.Layout.{Place}
 use Rattle.czi_format.specs.Live.{Live, Directory, Tile, AttItem, MetaItem}
 use Rattle.czi_format.specs.Segment.{Segment, extent}
 use Rattle.czi_format.specs.Span.{Span}
-use Rattle.czi_image.specs.Change.{turn_of}
+use Rattle.czi_image.specs.Change.{live_change_of}
 use Rattle.czi_image.specs.Holds.{LiesAs, tile_place, att_item_place, meta_item_place}
 use Rattle.czi_image.specs.Spans.{directory_span, live_spans, tile_span, att_item_span, meta_item_span}
 use Rattle.czi_machine.specs.Change.{Setting, same, to, brought, set_new}
 use Rattle.czi_machine.specs.Cover.{cover}
 use Rattle.czi_machine.specs.Edit.{DocumentEffect}
 use Rattle.czi_machine.specs.InOrder.{LiesInOrder, StaysOrNew, directory_spans, tiles_stay, attachments_stay}
-use Rattle.czi_machine.specs.Laws.{LiesLoosely}
+use Rattle.czi_machine.specs.Laws.{LiesInImage}
 use Rattle.czi_machine.specs.Places.{directories}
-use Rattle.czi_machine.specs.Sound.{IsTidy}
+use Rattle.czi_machine.specs.Sound.{IsDisjointState}
 use Rattle.czi_machine.specs.State.{State, items_of, item_spans, spans_of}
-use Rattle.czi_machine.specs.Turn.{Turn, new_segments}
+use Rattle.czi_machine.specs.LiveChange.{LiveChange, new_segments}
 use Rattle.czi_machine.proofs.Asking.{spans-append}
 use Rattle.czi_machine.proofs.Cover.{cover-append}
 use Rattle.czi_machine.proofs.Placing.{cover-live_places}
@@ -49,7 +49,7 @@ one_twice f None = refl
 one_twice f (Some x) = refl
 
 -- what is brought lies in the spans, or where a directory lay
-in_spans : (s : State) (e : DocumentEffect) (t : Turn) (spans : List Span) (k : ℕ) → LiesInOrder s e t spans → cover (map extent (new_segments t)) k ≤ cover spans k + cover (spans_of (directories s.layout)) k
+in_spans : (s : State) (e : DocumentEffect) (t : LiveChange) (spans : List Span) (k : ℕ) → LiesInOrder s e t spans → cover (map extent (new_segments t)) k ≤ cover spans k + cover (spans_of (directories s.layout)) k
 in_spans s e t spans k order =
     let D : List Segment = option_to_list (option_map segment_of (set_new t.directory)) in
     let T : List Segment = map (λ (x : Tile). x.segment) (brought t.tiles) in
@@ -114,13 +114,13 @@ items_live s x k lies =
       cover-append A M k,
     )
 
-pub in_order_apart : (bytes : List ℕ) (live : Live) (s : State) (x : EngineState) (e : DocumentEffect) (p : EditPlan) → LiesLoosely bytes live s → IsTidy s → LiesAs s.layout x.index
+pub in_order_apart : (bytes : List ℕ) (live : Live) (s : State) (x : EngineState) (e : DocumentEffect) (p : EditPlan) → LiesInImage bytes live s → IsDisjointState s → LiesAs s.layout x.index
     → ((q : ℕ) → cover (live_spans x.index.header x.index.directory x.index.tiles.items x.index.attdir x.index.attachments.items x.index.metadata) q + cover (used_of p) q ≤ 1)
-    → LiesInOrder s e (turn_of p.change x.index) (used_of p) → BringsApart live (turn_of p.change x.index)
+    → LiesInOrder s e (live_change_of p.change x.index) (used_of p) → BringsApart live (live_change_of p.change x.index)
 in_order_apart bytes live s x e p lies tidy at once order k some = omega (
   arith,
   some,
-  in_spans s e (turn_of p.change x.index) (used_of p) k order,
+  in_spans s e (live_change_of p.change x.index) (used_of p) k order,
   once k,
   items_live s x k at,
   ap (λ (ss : List Span). cover ss k) (items_at s.layout live lies.extents),

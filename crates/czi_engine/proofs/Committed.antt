@@ -6,10 +6,10 @@ use Rattle.czi_format.specs.Live.{Live}
 use Rattle.czi_format.specs.Segment.{Segment, extent}
 use Rattle.czi_format.specs.Span.{end_of}
 use Rattle.czi_machine.specs.Edit.{after}
-use Rattle.czi_machine.specs.Laws.{LiesLoosely, Leads}
-use Rattle.czi_machine.specs.Sound.{IsTidy}
+use Rattle.czi_machine.specs.Laws.{LiesInImage, Leads}
+use Rattle.czi_machine.specs.Sound.{IsDisjointState}
 use Rattle.czi_machine.specs.State.{State}
-use Rattle.czi_machine.specs.Turn.{Turn, turned, SpansAt}
+use Rattle.czi_machine.specs.LiveChange.{LiveChange, changed_live, SpansAt}
 use Rattle.czi_machine.specs.Writes.{AreOnce, WritesIn, marked}
 use Rattle.czi_machine.specs.Written.{Piece, byte_of, Wrote}
 use Rattle.czi_machine.proofs.AnyCommand.{once_after}
@@ -27,7 +27,7 @@ use Rattle.czi_engine.proofs.Made.{made_wrote}
 use Rattle.czi_engine.proofs.Openable.{recovered_opens, view_opens}
 
 -- nothing is written into UpdatePending
-pub none_pending : (bytes : List ℕ) (live : Live) (s s' : State) (t : Turn) (pieces : List Piece) (k : ℕ) → LiesLoosely bytes live s → IsTidy s → Leads s s' → SpansAt s'.layout (turned t live)
+pub none_pending : (bytes : List ℕ) (live : Live) (s s' : State) (t : LiveChange) (pieces : List Piece) (k : ℕ) → LiesInImage bytes live s → IsDisjointState s → Leads s s' → SpansAt s'.layout (changed_live t live)
     → WritesIn live.header t (marked s.layout s'.layout) pieces → 100 ≤ k → k < 104 → byte_of pieces k ≡ None
 none_pending bytes live s s' t pieces k lies is leads at inside from to =
     let H : Segment = live.header.segment in
@@ -42,15 +42,15 @@ none_pending bytes live s s' t pieces k lies is leads at inside from to =
       between_in H.at (end_of (extent H)) k (omega (arith, front.place)) (omega (arith, front.place, front.large, to)),
     ))
 
-pub made_settled : (bytes other : List ℕ) (live : Live) (s s' : State) (t : Turn) (pieces : List Piece) → LiesLoosely bytes live s → IsTidy s → IsSettled bytes → Leads s s' → SpansAt s'.layout (turned t live)
+pub made_settled : (bytes other : List ℕ) (live : Live) (s s' : State) (t : LiveChange) (pieces : List Piece) → LiesInImage bytes live s → IsDisjointState s → IsSettled bytes → Leads s s' → SpansAt s'.layout (changed_live t live)
     → WritesIn live.header t (marked s.layout s'.layout) pieces → Wrote bytes other pieces → 112 ≤ length other → get_or other 100 0 ≡ 0 → IsSettled other
 made_settled bytes other live s s' t pieces lies is settled leads at inside wrote long first k from to = elim (cases_lt 100 k) [
   | inr h ↦ let e : k ≡ 100 = omega (arith, from, h) in ap (λ (q : ℕ). get_or other q 0) e ∙ first
   | inl h ↦ wrote k (omega (arith, to, long)) (λ e. omega (arith, e, h)) ∙ (ap (λ o. unwrap_or o (get_or bytes k 0)) (none_pending bytes live s s' t pieces k lies is leads at inside from to) ∙ settled k from to)
 ]
 
-pub commit_stands : (start bytes : List ℕ) (live : Live) (s s' : State) (t : Turn) (c : Step) → StandsOn start bytes live s → IsPlanned bytes live s s' t c → IsStep bytes c
-    → StandsOn start (made_of c bytes) (turned t live) s'
+pub commit_stands : (start bytes : List ℕ) (live : Live) (s s' : State) (t : LiveChange) (c : Step) → StandsOn start bytes live s → IsPlanned bytes live s s' t c → IsStep bytes c
+    → StandsOn start (made_of c bytes) (changed_live t live) s'
 commit_stands start bytes live s s' t c on plan is =
     let made = made_wrote bytes c is in
     let other : List ℕ = made_of c bytes in
@@ -69,7 +69,7 @@ either_side start bytes other image journal live live' s s' high on after side =
     (λ before. inl (view_opens start bytes image journal live s high on before))
     (λ made. inr (recovered_opens start other image journal live' s' after made)) side
 
-pub commit_opens : (start bytes image journal : List ℕ) (live : Live) (s s' : State) (t : Turn) (c : Step) (high : AreHigh s) → StandsOn start bytes live s → IsPlanned bytes live s s' t c → IsStep bytes c
+pub commit_opens : (start bytes image journal : List ℕ) (live : Live) (s s' : State) (t : LiveChange) (c : Step) (high : AreHigh s) → StandsOn start bytes live s → IsPlanned bytes live s s' t c → IsStep bytes c
     → StandsOr (view_of bytes s high) (made_of c bytes) image journal → EitherSide start image journal s s'
 commit_opens start bytes image journal live s s' t c high on plan is side =
-    either_side start bytes (made_of c bytes) image journal live (turned t live) s s' high on (commit_stands start bytes live s s' t c on plan is) side
+    either_side start bytes (made_of c bytes) image journal live (changed_live t live) s s' high on (commit_stands start bytes live s s' t c on plan is) side

@@ -6,7 +6,7 @@ use Rattle.czi_format.specs.Layout.{Place}
 use Rattle.czi_format.specs.Live.{Live, FileHeader}
 use Rattle.czi_format.specs.Space.{free_runs}
 use Rattle.czi_format.specs.Bytes.{bytes_at}
-use Rattle.czi_format.specs.Span.{span_le}
+use Rattle.czi_format.specs.Span.{span_le, IsWhole}
 use Rattle.czi_format.proofs.Local.{header_fronts, part_of_part}
 use Rattle.czi_machine.specs.Cover.{cover}
 use Rattle.czi_machine.specs.Places.{can_be_used, space_of}
@@ -14,7 +14,7 @@ use Rattle.czi_machine.specs.Sound.{usable_held}
 use Rattle.czi_machine.specs.State.{Items, Former, State, items_of, item_places, item_spans, spans_of, not_among, held_by as held_places}
 use Rattle.czi_num.specs.Span.{span_of}
 use Rattle.czi_num.specs.declared.span.Span.{Span as CodeSpan}
-use Rattle.czi_space.specs.State.{space_of as map_space, AreExtents, IsWhole}
+use Rattle.czi_space.specs.State.{space_of as map_space, AreExtents}
 use Rattle.czi_engine.specs.Standing.{held_by, HasItsMap, HoldBack, HasState, Origin, AreWhole, file_of}
 use Rattle.czi_engine.specs.declared.engine.EngineState.{EngineState}
 use Rattle.czi_commit.specs.Made.{Fits, step_of}

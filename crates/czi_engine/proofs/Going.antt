@@ -10,12 +10,12 @@ use Rattle.czi_format.specs.Bytes.{bytes_at}
 use Rattle.czi_format.specs.Layout.{Place, Layout}
 use Rattle.czi_format.specs.Live.{Live, Tile, AttItem, MetaItem}
 use Rattle.czi_format.specs.Segment.{Segment, extent}
-use Rattle.czi_format.specs.Span.{Span, end_of, AreDisjoint, sorted, span_le}
+use Rattle.czi_format.specs.Span.{Span, end_of, AreDisjoint, sorted, span_le, IsWhole}
 use Rattle.czi_format.specs.Space.{without}
 use Rattle.czi_commit.specs.Filled.{AreFree, filled}
 use Rattle.czi_commit.specs.Made.{Fits, Step, made, step_of}
 use Rattle.czi_image.specs.Applied.{IsChanged, layout_after, CanChange, IsSame, directory_after, live_after}
-use Rattle.czi_image.specs.Change.{turn_of, AreWithin, acts_of, setting_of, directory_set, directory_in, attdir_in}
+use Rattle.czi_image.specs.Change.{live_change_of, AreWithin, acts_of, setting_of, directory_set, directory_in, attdir_in}
 use Rattle.czi_image.specs.Holds.{LiesAs, tile_place, att_item_place, meta_item_place}
 use Rattle.czi_image.proofs.Changed.{holds_changed, lies_changed}
 use Rattle.czi_links.specs.Record.{Bytes}
@@ -23,7 +23,7 @@ use Rattle.czi_machine.specs.Cover.{cover}
 use Rattle.czi_machine.specs.Edit.{Refusal}
 use Rattle.czi_machine.specs.Machine.{one_more}
 use Rattle.czi_machine.specs.State.{Former, Items, State, items_of, item_spans, spans_of}
-use Rattle.czi_machine.specs.Turn.{Turn, turned, SpansAt}
+use Rattle.czi_machine.specs.LiveChange.{LiveChange, changed_live, SpansAt}
 use Rattle.czi_machine.specs.Written.{Wrote}
 use Rattle.czi_machine.proofs.Cover.{between_in}
 use Rattle.czi_machine.proofs.Leaving.{among_covers}
@@ -43,7 +43,7 @@ use Rattle.czi_machine.specs.Planned.{Plans}
 use Rattle.czi_plan.specs.Geometry.{AreUsed, AreFreed}
 use Rattle.czi_plan.specs.declared.plan.EditPlan.{EditPlan}
 use Rattle.czi_region.specs.declared.block.Region.{Region}
-use Rattle.czi_space.specs.State.{MapState, Has, IsWhole}
+use Rattle.czi_space.specs.State.{MapState, Has}
 use Rattle.czi_engine.specs.Commit.{IsPlanned, made_of, pieces_in}
 use Rattle.czi_engine.specs.Free.{LiesFree}
 use Rattle.czi_engine.specs.Holes.{AreHigh, view_of}
@@ -105,8 +105,8 @@ all_picked P Q q (x ∷ xs) both all = elim (cases_Bool (q x)) [
 abbrev pub step : Engine → Step
 step x = step_of (file_of x.state) x.scratch.region x.scratch.plan
 
-abbrev pub turn : Engine → Turn
-turn x = turn_of x.scratch.plan.change x.state.index
+abbrev pub turn : Engine → LiveChange
+turn x = live_change_of x.scratch.plan.change x.state.index
 
 abbrev pub made_by : Engine → List ℕ → List ℕ
 made_by x bytes = made x.state.index.length (step x) bytes
@@ -152,8 +152,8 @@ module _ (o : Origin) (bytes : List ℕ) (live : Live) (s : State) (x : Engine) 
     pub leaves_100 : Covers (ranges x.scratch.plan.links.links) 100 → ⊥
     leaves_100 = commit_leaves o.bytes bytes live s by.state (turn x) (step x) has.stands planned
 
-    pub stands_next : StandsOn o.bytes (made_by x bytes) (turned (turn x) live) by.state
-    stands_next = subst (λ (z : List ℕ). StandsOn o.bytes z (turned (turn x) live) by.state) made_same (commit_stands o.bytes bytes live s by.state (turn x) (step x) has.stands planned fits)
+    pub stands_next : StandsOn o.bytes (made_by x bytes) (changed_live (turn x) live) by.state
+    stands_next = subst (λ (z : List ℕ). StandsOn o.bytes z (changed_live (turn x) live) by.state) made_same (commit_stands o.bytes bytes live s by.state (turn x) (step x) has.stands planned fits)
 
     pub touches : AlikeInItems (view_of bytes s high) (made_by x bytes)
     touches = subst (AlikeInItems (view_of bytes s high)) made_same (commit_touches o.bytes bytes live s by.state (turn x) (step x) high has.stands planned fits by.apart)
@@ -163,12 +163,12 @@ module _ (o : Origin) (bytes : List ℕ) (live : Live) (s : State) (x : Engine) 
     same_items z before after =
         let in_old : (k : ℕ) → z.at ≤ k → k < end_of z → 1 ≤ cover (map extent (item_segments live)) k =
         λ k from to. omega (arith, between_in z.at (end_of z) k from to, among_covers z (item_spans (items_of s.layout)) k before, ap (λ (ss : List Span). cover ss k) (items_at s.layout live has.stands.lies.extents)) in
-        let in_new : (k : ℕ) → z.at ≤ k → k < end_of z → 1 ≤ cover (map extent (item_segments (turned (turn x) live))) k =
-        λ k from to. omega (arith, between_in z.at (end_of z) k from to, among_covers z (item_spans (items_of by.state.layout)) k after, ap (λ (ss : List Span). cover ss k) (items_at by.state.layout (turned (turn x) live) by.spans)) in
+        let in_new : (k : ℕ) → z.at ≤ k → k < end_of z → 1 ≤ cover (map extent (item_segments (changed_live (turn x) live))) k =
+        λ k from to. omega (arith, between_in z.at (end_of z) k from to, among_covers z (item_spans (items_of by.state.layout)) k after, ap (λ (ss : List Span). cover ss k) (items_at by.state.layout (changed_live (turn x) live) by.spans)) in
         let wrote = (made_wrote bytes (step x) fits).0 in
         let next = stands_next in
         same_span_bytes (made_by x bytes) bytes z (λ k from to.
-        let small : k < length (made_by x bytes) = live_inside (made_by x bytes) (turned (turn x) live) by.state k next.lies next.tidy (omega (arith, in_new k from to, items_reached (turned (turn x) live) k)) in (
+        let small : k < length (made_by x bytes) = live_inside (made_by x bytes) (changed_live (turn x) live) by.state k next.lies next.tidy (omega (arith, in_new k from to, items_reached (changed_live (turn x) live) k)) in (
           small,
           live_inside bytes live s k has.stands.lies has.stands.tidy (omega (arith, in_old k from to, items_reached live k)),
           stays_same bytes (made_by x bytes) live s by.state (turn x) (pieces_in (step x)) has.stands.lies has.stands.tidy by.leads by.spans by.plans.around.inside (subst (λ (z : List ℕ). Wrote bytes z (pieces_in (step x))) made_same wrote) by.apart k (in_old k from to) (in_new k from to) small,
@@ -180,7 +180,7 @@ module _ (o : Origin) (bytes : List ℕ) (live : Live) (s : State) (x : Engine) 
 
     -- the engine that has the index, the edits and the number afterwards
     pub has_next : (y : EngineState) → IsChanged x.scratch.plan.change y.index.extents.items x.scratch.plan.length x.state.index y.index → map span_of y.index.extents.items ≡ extents_after x.scratch.plan x.state.map.extents
-        → y.edits.items ≡ held ∷ take 31 x.state.edits.items → y.number ≡ one_more x.state.number → HasState (origin_in o by.state) (made_by x bytes) (turned (turn x) live) by.state y
+        → y.edits.items ≡ held ∷ take 31 x.state.edits.items → y.number ≡ one_more x.state.number → HasState (origin_in o by.state) (made_by x bytes) (changed_live (turn x) live) by.state y
     has_next y index extents edits number =
         let p = x.scratch.plan in
         let lies : layout_after p.change (map span_of y.index.extents.items) p.length s.layout ≡ by.state.layout =
@@ -210,7 +210,7 @@ module _ (old new : Index) (same : IsSame old new) where
   places_left : (c : Change) → left_places c new ≡ left_places c old
   places_left c = λ i. items_left c i ++ (left_directory c.directory (same.directory i) ++ left_directory c.attdir (same.attdir i))
 
-  turn_same : (c : Change) → turn_of c new ≡ turn_of c old
+  turn_same : (c : Change) → live_change_of c new ≡ live_change_of c old
   turn_same c = λ i. record {
     directory = directory_set (λ s. directory_in s (map (λ (t : Tile). t.entry) (changed (mapped tile_of (acts_of c.tiles.items)) (map tile_of (same.tiles i))))) c.directory (same.directory i);
     tiles = mapped tile_of (acts_of c.tiles.items);
@@ -295,7 +295,7 @@ before_here a = record {
 goes_same : (go : Goes) (bytes : List ℕ) (live : Live) (s : State) (x y : Engine) (held : Option CodeSpan) → AsBefore x.state y.state → y.scratch ≡ x.scratch → GoesBy go bytes live s x held → GoesBy go bytes live s y held
 goes_same go bytes live s x y held same scratch by =
     let z : Engine = record { state = y.state; scratch = x.scratch } in
-    let turn : turn_of x.scratch.plan.change y.state.index ≡ turn_of x.scratch.plan.change x.state.index = turn_same x.state.index y.state.index same.index x.scratch.plan.change in
+    let turn : live_change_of x.scratch.plan.change y.state.index ≡ live_change_of x.scratch.plan.change x.state.index = turn_same x.state.index y.state.index same.index x.scratch.plan.change in
     let here : GoesBy go bytes live s z held = record {
       state = by.state;
       goes = by.goes;
@@ -303,8 +303,8 @@ goes_same go bytes live s x y held same scratch by =
       effect = by.effect;
       document = by.document;
       layout = by.layout;
-      spans = subst (λ (t : Turn). SpansAt by.state.layout (turned t live)) (sym turn) by.spans;
-      plans = subst (λ (t : Turn). Plans bytes s.layout by.state.layout live by.effect t (pieces_of x.scratch.region x.scratch.plan)) (sym turn) by.plans;
+      spans = subst (λ (t : LiveChange). SpansAt by.state.layout (changed_live t live)) (sym turn) by.spans;
+      plans = subst (λ (t : LiveChange). Plans bytes s.layout by.state.layout live by.effect t (pieces_of x.scratch.region x.scratch.plan)) (sym turn) by.plans;
       apart = subst (BringsApart live) (sym turn) by.apart;
       formers = by.formers;
       holds = by.holds;

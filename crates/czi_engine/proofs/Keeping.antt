@@ -14,8 +14,8 @@ use Rattle.czi_format.proofs.Unique.{reaches_unique}
 use Rattle.czi_journal.specs.Journals.{slot_of}
 use Rattle.czi_machine.specs.Cover.{cover, between}
 use Rattle.czi_machine.specs.Edit.{Refusal}
-use Rattle.czi_machine.specs.Laws.{LiesLoosely, Leads}
-use Rattle.czi_machine.specs.Sound.{IsTidy}
+use Rattle.czi_machine.specs.Laws.{LiesInImage, Leads}
+use Rattle.czi_machine.specs.Sound.{IsDisjointState}
 use Rattle.czi_machine.specs.State.{State, items_of, item_spans, spans_of, item_places, held}
 use Rattle.czi_machine.proofs.Cover.{between_in, between_high, cover-append, without_in}
 use Rattle.czi_machine.proofs.Leaving.{among_covers}
@@ -25,7 +25,7 @@ use Rattle.czi_vault.specs.Recovered.{Recovered, Stands, StandsFor, StandsNow}
 use Rattle.czi_vault.specs.Alone.{KeepsOr}
 use Rattle.czi_machine.proofs.Lying.{all_spans}
 use Rattle.czi_links.specs.Reading.{Reading, Void, Holds, OfVersion, BadAt}
-use Rattle.czi_machine.specs.Turn.{Turn, turned, new_segments, SpansAt}
+use Rattle.czi_machine.specs.LiveChange.{LiveChange, changed_live, new_segments, SpansAt}
 use Rattle.czi_machine.specs.Writes.{AreOnce, WritesIn, marked}
 use Rattle.czi_machine.specs.Written.{Piece, byte_of, Wrote}
 use Rattle.czi_commit.specs.Made.{Step}
@@ -110,7 +110,7 @@ items_reached live k =
     let M : List Segment = option_to_list (option_map (λ (m : MetaItem). m.segment) live.metadata) in
     omega (arith, both T (A ++ M), both A M, both D (T ++ (X ++ (A ++ M))), both T (X ++ (A ++ M)), both X (A ++ M))
 
-item_live : (bytes : List ℕ) (live : Live) (s : State) (l : Layout) (i : ℕ) (x : Span) (k : ℕ) → LiesLoosely bytes live s → HasLayout bytes l → slice_get (spans_of (item_places (items_of l))) i ≡ Some x
+item_live : (bytes : List ℕ) (live : Live) (s : State) (l : Layout) (i : ℕ) (x : Span) (k : ℕ) → LiesInImage bytes live s → HasLayout bytes l → slice_get (spans_of (item_places (items_of l))) i ≡ Some x
     → between x.at (end_of x) k ≤ cover (map extent (item_segments live)) k
 item_live bytes live s l i x k lies (other, walk, reaches, walks, is) got =
     let one : other ≡ live = reaches_unique bytes other live reaches lies.reaches in
@@ -123,7 +123,7 @@ item_live bytes live s l i x k lies (other, walk, reaches, walks, is) got =
     )
 
 -- and inside the bytes
-pub live_inside : (bytes : List ℕ) (live : Live) (s : State) (k : ℕ) → LiesLoosely bytes live s → IsTidy s → 1 ≤ cover (map extent (reached live)) k → k < length bytes
+pub live_inside : (bytes : List ℕ) (live : Live) (s : State) (k : ℕ) → LiesInImage bytes live s → IsDisjointState s → 1 ≤ cover (map extent (reached live)) k → k < length bytes
 live_inside bytes live s k lies is there = elim (cases_lt k (length bytes)) [
   | inl h ↦ h
   | inr h ↦ absurd (omega (arith, is.inside k (omega (arith, h, lies.length)), ap (λ z. cover z k) (all_spans s.layout live lies.extents), there))
@@ -140,9 +140,9 @@ same_span_bytes a b x each = elim (cases_lt 0 x.len) [
 ]
 
 -- What stays live isn't written.
-module _ (bytes other : List ℕ) (live : Live) (s s' : State) (t : Turn) (pieces : List Piece) (lies : LiesLoosely bytes live s) (is : IsTidy s) (leads : Leads s s') (at : SpansAt s'.layout (turned t live))
+module _ (bytes other : List ℕ) (live : Live) (s s' : State) (t : LiveChange) (pieces : List Piece) (lies : LiesInImage bytes live s) (is : IsDisjointState s) (leads : Leads s s') (at : SpansAt s'.layout (changed_live t live))
     (inside : WritesIn live.header t (marked s.layout s'.layout) pieces) (wrote : Wrote bytes other pieces) (apart : BringsApart live t) where
-  pub stays_same : (k : ℕ) → 1 ≤ cover (map extent (item_segments live)) k → 1 ≤ cover (map extent (item_segments (turned t live))) k → k < length other → get_or other k 0 ≡ get_or bytes k 0
+  pub stays_same : (k : ℕ) → 1 ≤ cover (map extent (item_segments live)) k → 1 ≤ cover (map extent (item_segments (changed_live t live))) k → k < length other → get_or other k 0 ≡ get_or bytes k 0
   stays_same k before after small =
       let H : Segment = live.header.segment in
       let front : HeaderAt bytes H = header_at_front bytes live lies.reaches in
@@ -156,25 +156,25 @@ module _ (bytes other : List ℕ) (live : Live) (s s' : State) (t : Turn) (piece
         | inl h ↦ absurd (omega (arith, is.once k, ap (λ z. cover z k) (all_spans s.layout live lies.extents), before, items_reached live k, between_in H.at (end_of (extent H)) k (omega (arith, front.place)) (omega (arith, front.place, front.large, h))))
       ] in
       let none : byte_of pieces k ≡ None = not_written live.header t (marked s.layout s'.layout) pieces k inside once.long
-      (omega (arith, between_high 84 100 k (omega (arith, far)), between_high 104 112 k far, none_new, once.once k, after, items_reached (turned t live) k)) in
+      (omega (arith, between_high 84 100 k (omega (arith, far)), between_high 104 112 k far, none_new, once.once k, after, items_reached (changed_live t live) k)) in
       wrote k small (λ e. omega (arith, e, far)) ∙ ap (λ o. unwrap_or o (get_or bytes k 0)) none
 
 -- Two pairs, each on one side.
 module _ (start bytes other : List ℕ) (live live' : Live) (s s' : State) (high : AreHigh s) (on : StandsOn start bytes live s) (after : StandsOn start other live' s')
     (stays : (k : ℕ) → 1 ≤ cover (map extent (item_segments live)) k → 1 ≤ cover (map extent (item_segments live')) k → get_or other k 0 ≡ get_or bytes k 0) where
-  old_reads : (image journal a : List ℕ) → Stands (view_of bytes s high) image journal → Recovered image journal a → LiesLoosely a live s × ((k : ℕ) → 1 ≤ cover (map extent (item_segments live)) k → (k < length a) × (get_or a k 0 ≡ get_or bytes k 0))
+  old_reads : (image journal a : List ℕ) → Stands (view_of bytes s high) image journal → Recovered image journal a → LiesInImage a live s × ((k : ℕ) → 1 ≤ cover (map extent (item_segments live)) k → (k < length a) × (get_or a k 0 ≡ get_or bytes k 0))
   old_reads image journal a stands recovered =
       let one : stands.bytes ≡ a = stands_once (slot_of journal) image stands.bytes a stands.recovered recovered in
-      let lies : LiesLoosely stands.bytes live s = (stands_outside start bytes stands.bytes live s on stands.agrees).lies in
-      subst (λ (z : List ℕ). LiesLoosely z live s × ((k : ℕ) → 1 ≤ cover (map extent (item_segments live)) k → (k < length z) × (get_or z k 0 ≡ get_or bytes k 0))) one (
+      let lies : LiesInImage stands.bytes live s = (stands_outside start bytes stands.bytes live s on stands.agrees).lies in
+      subst (λ (z : List ℕ). LiesInImage z live s × ((k : ℕ) → 1 ≤ cover (map extent (item_segments live)) k → (k < length z) × (get_or z k 0 ≡ get_or bytes k 0))) one (
         lies,
         λ k there. (live_inside stands.bytes live s k lies on.tidy (omega (arith, there, items_reached live k)), stands.agrees.each k (live_outside bytes live s k on.lies on.tidy (omega (arith, there, items_reached live k)))),
       )
 
-  new_reads : (image journal a : List ℕ) → Recovered image journal other → Recovered image journal a → LiesLoosely a live' s' × ((k : ℕ) → 1 ≤ cover (map extent (item_segments live')) k → (k < length a) × (get_or a k 0 ≡ get_or other k 0))
+  new_reads : (image journal a : List ℕ) → Recovered image journal other → Recovered image journal a → LiesInImage a live' s' × ((k : ℕ) → 1 ≤ cover (map extent (item_segments live')) k → (k < length a) × (get_or a k 0 ≡ get_or other k 0))
   new_reads image journal a made recovered =
       let one : other ≡ a = stands_once (slot_of journal) image other a made recovered in
-      subst (λ (z : List ℕ). LiesLoosely z live' s' × ((k : ℕ) → 1 ≤ cover (map extent (item_segments live')) k → (k < length z) × (get_or z k 0 ≡ get_or other k 0))) one
+      subst (λ (z : List ℕ). LiesInImage z live' s' × ((k : ℕ) → 1 ≤ cover (map extent (item_segments live')) k → (k < length z) × (get_or z k 0 ≡ get_or other k 0))) one
       (after.lies, λ k there. (live_inside other live' s' k after.lies after.tidy (omega (arith, there, items_reached live' k)), refl))
 
   pub alike_sides : AlikeInItems (view_of bytes s high) other
@@ -204,25 +204,25 @@ module _ (start bytes other : List ℕ) (live live' : Live) (s s' : State) (high
       let j = there b live' s' m in_m v.0 lb k from to in
       ((u.1 k i).0, (v.1 k j).0, (u.1 k i).1 ∙ sym (v.1 k j).1))) second) first
     where
-      there : (z : List ℕ) (live : Live) (s : State) (n : Layout) → (i : ℕ) × (slice_get (spans_of (item_places (items_of n))) i ≡ Some x) → LiesLoosely z live s → HasLayout z n → (k : ℕ) → x.at ≤ k → k < end_of x
+      there : (z : List ℕ) (live : Live) (s : State) (n : Layout) → (i : ℕ) × (slice_get (spans_of (item_places (items_of n))) i ≡ Some x) → LiesInImage z live s → HasLayout z n → (k : ℕ) → x.at ≤ k → k < end_of x
           → 1 ≤ cover (map extent (item_segments live)) k
       there z live s n among lies has k from to = omega (arith, item_live z live s n among.0 x k lies has among.1, between_in x.at (end_of x) k from to)
 
-pub commit_touches : (start bytes : List ℕ) (live : Live) (s s' : State) (t : Turn) (c : Step) (high : AreHigh s) → StandsOn start bytes live s → IsPlanned bytes live s s' t c → IsStep bytes c → BringsApart live t
+pub commit_touches : (start bytes : List ℕ) (live : Live) (s s' : State) (t : LiveChange) (c : Step) (high : AreHigh s) → StandsOn start bytes live s → IsPlanned bytes live s s' t c → IsStep bytes c → BringsApart live t
     → AlikeInItems (view_of bytes s high) (made_of c bytes)
 commit_touches start bytes live s s' t c high on plan is apart =
     let made = made_wrote bytes c is in
     let other : List ℕ = made_of c bytes in
-    let after : StandsOn start other (turned t live) s' = commit_stands start bytes live s s' t c on plan is in
-    alike_sides start bytes other live (turned t live) s s' high on after
-    (λ k i j. stays_same bytes other live s s' t (pieces_in c) on.lies on.tidy plan.leads plan.spans plan.plans.around.inside made.0 apart k i j (live_inside other (turned t live) s' k after.lies after.tidy (omega (arith, j, items_reached (turned t live) k))))
+    let after : StandsOn start other (changed_live t live) s' = commit_stands start bytes live s s' t c on plan is in
+    alike_sides start bytes other live (changed_live t live) s s' high on after
+    (λ k i j. stays_same bytes other live s s' t (pieces_in c) on.lies on.tidy plan.leads plan.spans plan.plans.around.inside made.0 apart k i j (live_inside other (changed_live t live) s' k after.lies after.tidy (omega (arith, j, items_reached (changed_live t live) k))))
 
 -- Bytes of held segments are outside the holes.
 
 held_outside : (s : State) (k : ℕ) → 1 ≤ cover (held s) k → Covers (holes_of s) k → ⊥
 held_outside s k there hole = omega (arith, covered (holes (held s) s.layout.deleted) k hole, without_in (held s) (map interior s.layout.deleted) k there)
 
-held_inside : (bytes : List ℕ) (s : State) (k : ℕ) → IsTidy s → s.layout.length ≡ length bytes → 1 ≤ cover (held s) k → k < length bytes
+held_inside : (bytes : List ℕ) (s : State) (k : ℕ) → IsDisjointState s → s.layout.length ≡ length bytes → 1 ≤ cover (held s) k → k < length bytes
 held_inside bytes s k is long there = elim (cases_lt k (length bytes)) [
   | inl h ↦ h
   | inr h ↦ absurd (omega (arith, held_covered s k is, is.inside k (omega (arith, h, long)), there))
@@ -257,10 +257,10 @@ itself_rests all image journal is = record {
 }
 
 -- items are live
-live_items : (bytes : List ℕ) (live : Live) (s : State) (k : ℕ) → LiesLoosely bytes live s → 1 ≤ cover (item_spans (items_of s.layout)) k → 1 ≤ cover (map extent (segments live)) k
+live_items : (bytes : List ℕ) (live : Live) (s : State) (k : ℕ) → LiesInImage bytes live s → 1 ≤ cover (item_spans (items_of s.layout)) k → 1 ≤ cover (map extent (segments live)) k
 live_items bytes live s k lies there = omega (arith, there, cover-live_places s.layout k, ap (λ z. cover z k) (all_spans s.layout live lies.extents))
 
-inside : (bytes : List ℕ) (live : Live) (s : State) (k : ℕ) → LiesLoosely bytes live s → IsTidy s → 1 ≤ cover (map extent (segments live)) k → k < length bytes
+inside : (bytes : List ℕ) (live : Live) (s : State) (k : ℕ) → LiesInImage bytes live s → IsDisjointState s → 1 ≤ cover (map extent (segments live)) k → k < length bytes
 inside bytes live s k lies is there = elim (cases_lt k (length bytes)) [
   | inl h ↦ h
   | inr h ↦ absurd (omega (arith, is.inside k (omega (arith, h, lies.length)), ap (λ z. cover z k) (all_spans s.layout live lies.extents), there))

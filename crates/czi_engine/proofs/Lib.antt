@@ -13,3 +13,4 @@ pub mod Oldest
 pub mod Apart
 pub mod Planned
 pub mod Same
+pub mod Created

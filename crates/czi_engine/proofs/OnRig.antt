@@ -11,7 +11,7 @@ use Rattle.czi_image.specs.declared.index.Index.{Index}
 use Rattle.czi_machine.specs.Edit.{Refusal, too_long, no_key, duplicate, too_many, full}
 use Rattle.czi_machine.specs.Machine.{one_more}
 use Rattle.czi_machine.specs.State.{State as MachineState}
-use Rattle.czi_machine.specs.Turn.{turned}
+use Rattle.czi_machine.specs.LiveChange.{changed_live}
 use Rattle.czi_num.specs.Span.{span_of}
 use Rattle.czi_num.specs.declared.span.Span.{Span as CodeSpan}
 use Rattle.czi_opening.specs.Answers.{IsJournal}
@@ -28,14 +28,14 @@ use Rattle.czi_rig.proofs.Known.{came_from, known_file, known_said, source_of, t
 use Rattle.czi_rig.proofs.Quiet.{untouched_here}
 use Rattle.czi_rig.proofs.Runs.{started, weaker}
 use Rattle.czi_rig.proofs.Spans.{during, each_two}
-use Rattle.czi_space.specs.State.{IsWhole}
+use Rattle.czi_format.specs.Span.{IsWhole}
 use Rattle.czi_vault.specs.Alone.{HasBytes, KeepsOr}
 use Rattle.czi_vault.specs.Puts.{ranges}
 use Rattle.czi_vault.specs.Recovered.{Recovered, StandsNow, StandsOr, View}
 use Rattle.czi_rig.specs.Faults.{Faults}
 use Rattle.czi_engine.specs.Devices.{edit_device}
 use Rattle.czi_engine.specs.Edited.{Edits, OnFiles, OnImage}
-use Rattle.czi_engine.specs.Editing.{Accepts, Alike, AsBefore, DuringEdit, Goes, Refuses, is_device, refusal_of}
+use Rattle.czi_engine.specs.Editing.{Accepts, Alike, AsBefore, DuringEdit, Goes, RefusesEdit, is_device, refusal_of}
 use Rattle.czi_engine.specs.Holes.{AreHigh, view_of}
 use Rattle.czi_engine.specs.Prepared.{IsPrepared}
 use Rattle.czi_engine.specs.Standing.{AreWhole, HasItsMap, HasSome, HasState, IsItself, Origin, StandsOnRig, origin_in}
@@ -77,7 +77,7 @@ module _ {D : Type 0} (rig : Ghosts D) (old new : D) (x : Engine) (go : Goes) (h
       let bytes = all.image.seen in
       let by = p.means o bytes live s has in
       let up = high o bytes live s x has on.own_map p.plan in
-      weaker rig (λ i j said sides. during_edit o bytes (made_by x bytes) i j said all.said live (turned (turn x) live) s by.state go up has.stands has.kept
+      weaker rig (λ i j said sides. during_edit o bytes (made_by x bytes) i j said all.said live (changed_live (turn x) live) s by.state go up has.stands has.kept
       (stands_next o bytes live s x has on.own_map p.plan go held by) (kept_next o bytes live s x has on.own_map p.plan go held by) by.goes sides) (carried_on all is o live s has)
 
   pub alike : OnlyNow rig → OnFiles (rig.state old) x.state (λ all o s. EachTwo rig old new Alike)
@@ -94,7 +94,7 @@ module _ (x : Engine) (y : EngineState) (go : Goes) (held : Option CodeSpan) (p 
     (index : IsChanged x.scratch.plan.change y.index.extents.items x.scratch.plan.length x.state.index y.index) (extents : map span_of y.index.extents.items ≡ extents_after x.scratch.plan x.state.map.extents)
     (edits : y.edits.items ≡ held ∷ take 31 x.state.edits.items) (number : y.number ≡ one_more x.state.number) (old new : State)
     (image : known new Image ≡ option_map (λ (disk : Disk). at_rest (made_by x disk.seen)) (known old Image)) where
-  has_after : (bytes : List ℕ) (o : Origin) (live : Live) (s : MachineState) → (has : HasState o bytes live s x.state) → (let by = p.means o bytes live s has in HasState (origin_in o by.state) (made_by x bytes) (turned (turn x) live) by.state y)
+  has_after : (bytes : List ℕ) (o : Origin) (live : Live) (s : MachineState) → (has : HasState o bytes live s x.state) → (let by = p.means o bytes live s has in HasState (origin_in o by.state) (made_by x bytes) (changed_live (turn x) live) by.state y)
   has_after bytes o live s has = has_next o bytes live s x has own p.plan go held (p.means o bytes live s has) y index extents edits number
 
   pub accepts : OnImage old x.state (λ o s. Accepts go o s new y y.number)
@@ -105,11 +105,11 @@ module _ (x : Engine) (y : EngineState) (go : Goes) (held : Option CodeSpan) (p 
         goes = by.goes;
         numbered = (has_after bytes o live s has).number;
         counted = number ∙ ap one_more has.number;
-        live = turned (turn x) live;
+        live = changed_live (turn x) live;
         has = λ now is.
             let from = source_of (known old Image) (known new Image) (λ (disk : Disk). at_rest (made_by x disk.seen)) now image is in
             let same : from.disk.seen ≡ bytes = seen_is (known old Image) from.disk bytes from.known_before seen in
-            subst (λ (b : List ℕ). HasState (origin_in o by.state) b (turned (turn x) live) by.state y) (ap (made_by x) (sym same) ∙ sym from.seen_is) (has_after bytes o live s has);
+            subst (λ (b : List ℕ). HasState (origin_in o by.state) b (changed_live (turn x) live) by.state y) (ap (made_by x) (sym same) ∙ sym from.seen_is) (has_after bytes o live s has);
       }
 
   pub stands_after : StandsOnRig old x.state → HasItsMap y → AreWhole y.edits.items → length y.edits.items ≤ 32
@@ -153,7 +153,7 @@ next_whole x y held own all is = (
 )
 
 -- an error of a device is no refusal
-device_refuses : (go : Goes) (s : MachineState) (error : EditError) → IsTrue (is_device error) → Refuses go s error
+device_refuses : (go : Goes) (s : MachineState) (error : EditError) → IsTrue (is_device error) → RefusesEdit go s error
 device_refuses go s (TooLong n limit) is = absurd (true≢false (sym is))
 device_refuses go s NoKey is = absurd (true≢false (sym is))
 device_refuses go s (Duplicate place) is = absurd (true≢false (sym is))
@@ -164,7 +164,7 @@ device_refuses go s ImageDevice is = tt
 device_refuses go s JournalDevice is = tt
 
 -- and a refusal leaves no doubt
-refused_is : (go : Goes) (s : MachineState) (error : EditError) (refusal : Refusal) → IsFalse (is_device error) → Refuses go s error → go s ≡ Err refusal → (refusal_of error ≡ Some refusal) ⊎ (error ≡ Memory)
+refused_is : (go : Goes) (s : MachineState) (error : EditError) (refusal : Refusal) → IsFalse (is_device error) → RefusesEdit go s error → go s ≡ Err refusal → (refusal_of error ≡ Some refusal) ⊎ (error ≡ Memory)
 refused_is go s (TooLong n limit) refusal off refuses goes = inl (let same : too_long n limit ≡ refusal = cc (refuses, goes) in ap Some same)
 refused_is go s NoKey refusal off refuses goes = inl (let same : no_key ≡ refusal = cc (refuses, goes) in ap Some same)
 refused_is go s (Duplicate place) refusal off refuses goes = inl (let same : duplicate place ≡ refusal = cc (refuses, goes) in ap Some same)
@@ -236,7 +236,7 @@ module _ {D : Type 0} (rig : Ghosts D) (old new : D) (x : Engine) (go : Goes) (h
 
 -- nothing was asked of a device
 pub edited_none : {D : Type 0} (rig : Ghosts D) (r : D) (only : OnlyNow rig) (itself : ForSome (devices (rig.state r)) (λ all. IsItself all.image all.journal)) (x y : EngineState) (go : Goes) (error : EditError) → IsFalse x.down → IsFalse (is_device error) → AsBefore x y
-    → ((o : Origin) (bytes : List ℕ) (live : Live) (s : MachineState) → HasState o bytes live s x → Refuses go s error) → Edits rig go r r x y (Err error)
+    → ((o : Origin) (bytes : List ℕ) (live : Live) (s : MachineState) → HasState o bytes live s x → RefusesEdit go s error) → Edits rig go r r x y (Err error)
 edited_none rig r only itself x y go error up off same refuses = record {
   moments = λ all is o live s has. started rig r (DuringEdit o s go all.said);
   alike = λ all is o live s has. each_two rig Alike (λ i j said i' j' said' one two. one_alike all.image.seen i j i' j' one two)

@@ -7,7 +7,7 @@ use Rattle.czi_format.specs.Layout.{Layout, HasLayout}
 use Rattle.czi_format.specs.Live.{Live, update_pending, document}
 use Rattle.czi_format.specs.Shows.{Reaches}
 use Rattle.czi_machine.specs.Headline.{SameExtents}
-use Rattle.czi_machine.specs.Laws.{LiesLoosely, Lies}
+use Rattle.czi_machine.specs.Laws.{LiesInImage, Lies}
 use Rattle.czi_machine.specs.State.{State}
 use Rattle.czi_vault.specs.Recovered.{Recovered, Stands}
 use Rattle.czi_engine.specs.Holes.{AreHigh, view_of}
@@ -29,7 +29,7 @@ settled_whole bytes is =
     let zero : (i : ℕ) → i < 4 → get_or (bytes_at bytes 100 4) i 0 ≡ 0 = λ i small. part bytes i small ∙ is (100 + i) (omega arith) (omega (arith, small)) in
     ap (cast_signed w32) (zero_bytes (bytes_at bytes 100 4) (zero 0 (omega arith)) (zero 1 (omega arith)) (zero 2 (omega arith)) (zero 3 (omega arith)))
 
-same_extents : (bytes : List ℕ) (live : Live) (s : State) (m : Layout) → LiesLoosely bytes live s → HasLayout bytes m → SameExtents m s.layout
+same_extents : (bytes : List ℕ) (live : Live) (s : State) (m : Layout) → LiesInImage bytes live s → HasLayout bytes m → SameExtents m s.layout
 same_extents bytes live s m lies has =
     let at = layout_lies bytes live m lies.reaches has in
     record {

@@ -10,8 +10,8 @@ use Rattle.czi_format.proofs.Local.{reaches_local, document_local}
 use Rattle.czi_rig.specs.Disk.{Covers, SameOutside}
 use Rattle.czi_machine.specs.Cover.{between, cover}
 use Rattle.czi_machine.specs.Holes.{holes, SameOutside as Agrees, interior}
-use Rattle.czi_machine.specs.Laws.{Lies, LiesLoosely}
-use Rattle.czi_machine.specs.Sound.{IsTidy}
+use Rattle.czi_machine.specs.Laws.{Lies, LiesInImage}
+use Rattle.czi_machine.specs.Sound.{IsDisjointState}
 use Rattle.czi_machine.specs.State.{State, held}
 use Rattle.czi_machine.proofs.Clear.{HeaderAt, header_at_front}
 use Rattle.czi_machine.proofs.Cover.{between_in, side, low, here, high}
@@ -52,7 +52,7 @@ pub holes_fewer : (held deleted : List Span) (k : ℕ) → cover (holes held del
 holes_fewer held deleted k = omega (arith, without_fewer held (map interior deleted) k, interiors_fewer deleted k)
 
 -- what is live is outside them
-pub live_outside : (image : List ℕ) (live : Live) (s : State) (k : ℕ) → LiesLoosely image live s → IsTidy s → 1 ≤ cover (map extent (segments live)) k → Covers (holes_of s) k → ⊥
+pub live_outside : (image : List ℕ) (live : Live) (s : State) (k : ℕ) → LiesInImage image live s → IsDisjointState s → 1 ≤ cover (map extent (segments live)) k → Covers (holes_of s) k → ⊥
 live_outside image live s k lies is there hole =
     omega (
       arith,
@@ -63,7 +63,7 @@ live_outside image live s k lies is there hole =
       there,
     )
 
-pub front_outside : (image : List ℕ) (live : Live) (s : State) (k : ℕ) → LiesLoosely image live s → IsTidy s → k < 32 + live.header.segment.allocated → Covers (holes_of s) k → ⊥
+pub front_outside : (image : List ℕ) (live : Live) (s : State) (k : ℕ) → LiesInImage image live s → IsDisjointState s → k < 32 + live.header.segment.allocated → Covers (holes_of s) k → ⊥
 front_outside image live s k lies is front hole =
     let H : Segment = live.header.segment in
     let at : HeaderAt image H = header_at_front image live lies.reaches in
@@ -82,7 +82,7 @@ pub record Has (a b : List ℕ) (s : State) : Type 0 where
   pub each : (k : ℕ) → k < length a → (Covers (holes_of s) k → ⊥) → get_or b k 0 ≡ get_or a k 0
 
 -- the same live segments
-pub same_live : (a b : List ℕ) (live : Live) (s : State) → LiesLoosely a live s → IsTidy s → Has a b s → SameLive a b live
+pub same_live : (a b : List ℕ) (live : Live) (s : State) → LiesInImage a live s → IsDisjointState s → Has a b s → SameLive a b live
 same_live a b live s lies is has =
     let H : Segment = live.header.segment in
     let at : HeaderAt a H = header_at_front a live lies.reaches in
@@ -98,7 +98,7 @@ same_live a b live s lies is has =
       reached = extents.1;
     }
 
-pub loosely_outside : (a b : List ℕ) (live : Live) (s : State) → LiesLoosely a live s → IsTidy s → SameOutside (Covers (holes_of s)) a b → LiesLoosely b live s
+pub loosely_outside : (a b : List ℕ) (live : Live) (s : State) → LiesInImage a live s → IsDisjointState s → SameOutside (Covers (holes_of s)) a b → LiesInImage b live s
 loosely_outside a b live s lies is same =
     let live_same : SameLive a b live = same_live a b live s lies is (record { long = omega (arith, same.len); each = λ k small out. same.each k out }) in
     record {
@@ -115,7 +115,7 @@ agrees a b s same = record {
   same = λ p none. sym (same.each p (λ hole. omega (arith, covered (holes (held s) s.layout.deleted) p hole, none)));
 }
 
-steady_outside : (a b : List ℕ) (live : Live) (s : State) → Lies a live s → LiesLoosely b live s → SameOutside (Covers (holes_of s)) a b → Lies b live s
+steady_outside : (a b : List ℕ) (live : Live) (s : State) → Lies a live s → LiesInImage b live s → SameOutside (Covers (holes_of s)) a b → Lies b live s
 steady_outside a b live s lies loosely same =
     let all = same_outside_holes a b s.layout (held s) s.document lies.steady lies.layout (agrees a b s same) (live, lies.reaches, lies.document) in
     record { reaches = loosely.reaches; document = loosely.document; steady = all.2; layout = all.1 }
@@ -123,7 +123,7 @@ steady_outside a b live s lies loosely same =
 pub stands_outside : (start bytes other : List ℕ) (live : Live) (s : State) → StandsOn start bytes live s → SameOutside (Covers (holes_of s)) bytes other → StandsOn start other live s
 stands_outside start bytes other live s on same =
     let at : HeaderAt bytes live.header.segment = header_at_front bytes live on.lies.reaches in
-    let loosely : LiesLoosely other live s = loosely_outside bytes other live s on.lies on.tidy same in
+    let loosely : LiesInImage other live s = loosely_outside bytes other live s on.lies on.tidy same in
     record {
       lies = loosely;
       tidy = on.tidy;

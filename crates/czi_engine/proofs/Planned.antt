@@ -1,49 +1,49 @@
 -- The plan of an edit, as a command of the machine.
-use Rattle.std.proofs.Common.{◌≡◌, ◌⊎◌, ℕ, zero, suc, ◌+◌, ◌-◌, ◌<◌, ◌≤◌, ◌^◌, List, [], ◌∷◌, ◌++◌, map, filter, take, length, get_or, true, false, ◌&&◌, nat_le, nat_lt, Bool, not, cond, position, Option, Some, None, option_map, option_to_list, Result, Ok, Err, refl, ap, sym, ◌∙◌, subst, arith, inl, inr}
+use Rattle.std.proofs.Common.{◌≡◌, ℕ, zero, suc, ◌+◌, ◌-◌, ◌<◌, ◌≤◌, ◌^◌, List, [], ◌∷◌, map, take, length, true, false, nat_le, nat_lt, Bool, not, bytes_eq, cond, position, Option, Some, None, option_map, option_to_list, Result, Ok, Err, refl, ap, sym, ◌∙◌, subst, arith, inl, inr}
 use Rattle.std.specs.Prelude.{IfSome, IsErrAnd, IsFalse}
 use Rattle.std.specs.List.{AllByRecursion, prefix_len}
 use Rattle.std.specs.Option.{ForSome, option_or}
 use Rattle.std.proofs.lemmas.Bool.{cases_Bool, le-leb, leb-true, lt-ltb, le-ltb}
 use Rattle.std.proofs.lemmas.List.{length-map}
 use Rattle.std.proofs.lemmas.List.Quantifiers.{position-Some}
-use Rattle.czi_format.specs.Document.{Document, Subblock}
+use Rattle.czi_format.specs.Document.{Attachment, Document, Metadata, Subblock}
 use Rattle.czi_format.specs.Entry.{Dim}
 use Rattle.czi_format.specs.FirstFault.{◌>>=◌, ◌>>◌, unless, with_fault}
-use Rattle.czi_format.specs.Key.{key}
+use Rattle.czi_format.specs.Key.{attachment_key, key}
 use Rattle.czi_format.specs.Layout.{Place, Layout}
-use Rattle.czi_format.specs.Live.{Live, Tile, subblock_of, document}
+use Rattle.czi_format.specs.Live.{AttItem, Live, Tile, attachment_of, document, subblock_of}
 use Rattle.czi_format.specs.Space.{Full}
-use Rattle.czi_format.specs.Span.{Span, is_aligned}
+use Rattle.czi_format.specs.Span.{is_aligned, IsWhole}
 use Rattle.czi_format.proofs.Readings.{both_true}
-use Rattle.czi_image.specs.Change.{acts_of, setting_of, turn_of}
+use Rattle.czi_image.specs.Change.{acts_of, live_change_of}
 use Rattle.czi_image.specs.Holds.{tile_place, att_item_place, meta_item_place}
-use Rattle.czi_image.specs.View.{tile_of}
+use Rattle.czi_image.specs.View.{att_item_of, tile_of}
 use Rattle.czi_image.specs.declared.types.AttItem.{AttItem as CodeAttItem}
 use Rattle.czi_image.specs.declared.types.MetaItem.{MetaItem as CodeMetaItem}
 use Rattle.czi_image.specs.declared.types.Tile.{Tile as CodeTile}
 use Rattle.czi_image.specs.declared.index.Index.{Index}
-use Rattle.czi_machine.specs.Change.{into, last, omitted, out, put, set_omitted}
-use Rattle.czi_machine.specs.Edit.{Edit, DocumentEffect, Refusal, add, after, duplicate, effect, fits, found, in_subblocks, no_key, not_found, remove, replace, same_key, subblock_with, too_many}
+use Rattle.czi_machine.specs.Change.{into, omitted, out, put}
+use Rattle.czi_machine.specs.Edit.{Edit, DocumentEffect, Refusal, add, after, attach, attachment_with as named_in_document, detach, duplicate, effect, fits, found, in_attachments, in_subblocks, not_found, reattach, remove, replace, same_key, set_meta, subblock_with, to_metadata, too_many}
 use Rattle.czi_machine.specs.Fits.{FitsEffect}
 use Rattle.czi_machine.specs.Machine.{after_edit, after_effect, as_refusal, edited, kept_formers, within_bounds}
 use Rattle.czi_machine.specs.Places.{can_be_used}
-use Rattle.czi_machine.specs.State.{Former, Items, State, items_of, spans_of}
-use Rattle.czi_machine.specs.Turn.{Turn}
+use Rattle.czi_machine.specs.State.{Former, Items, State, items_of}
+use Rattle.czi_machine.specs.LiveChange.{LiveChange}
 use Rattle.czi_machine.proofs.Follow.{fits_turn, spans_follow}
 use Rattle.czi_machine.proofs.Ordering.{fits_in_order, full_in_order}
-use Rattle.czi_machine.proofs.Tiled.{All-both, All-map, All-weaken, aligned_is}
+use Rattle.czi_machine.proofs.Tiled.{All-both, aligned_is}
 use Rattle.czi_num.specs.Span.{span_of}
 use Rattle.czi_num.specs.declared.span.Span.{Span as CodeSpan}
 use Rattle.czi_plan.specs.Conditions.{LiesIn}
 use Rattle.czi_plan.specs.Does.{Does, DoesIn, HasNoPlan, layout_by}
 use Rattle.czi_plan.specs.Plan.{IsPlan, left_items, usable_of}
-use Rattle.czi_plan.specs.Search.{tile_with}
+use Rattle.czi_plan.specs.Search.{attachment_with, tile_with}
 use Rattle.czi_plan.specs.declared.plan.PlanFault.{PlanFault}
 use Rattle.czi_plan.specs.declared.plan.PlanFault.TheVariants.{Full as NoPlaceIn, Memory as NoMemory}
-use Rattle.czi_space.specs.State.{IsWhole}
-use Rattle.czi_engine.specs.Editing.{AsBefore, Goes, Refuses, is_device, refusal_of, unplanned}
-use Rattle.czi_engine.specs.Limits.{TellsNew, piece_past_limit}
+use Rattle.czi_engine.specs.Editing.{AsBefore, Goes, RefusesEdit, is_device, refusal_of, unplanned}
+use Rattle.czi_engine.specs.Limits.{TellsNew, attachment_pieces, first_past_limit, metadata_pieces, subblock_pieces}
 use Rattle.czi_engine.specs.Prepared.{GoesBy, Prepares}
+use Rattle.czi_engine.specs.Tasks.{Means}
 use Rattle.czi_engine.specs.Standing.{HasItsMap, HasState, HoldBack, Origin}
 use Rattle.czi_engine.specs.declared.engine.Engine.{Engine}
 use Rattle.czi_engine.specs.declared.engine.EngineState.{EngineState}
@@ -68,111 +68,121 @@ same_search bytes live d tiles dims is holds =
     ap (subblock_with dims) is
     ∙ (position_map (subblock_of bytes) (λ (s : Subblock). same_key (key s.info.dims) (key dims)) live.tiles ∙ ap (tile_with dims) (sym holds))
 
--- an edit that a state of the engine doesn't refuse does this
-abbrev pub HasEffect : EngineState → Edit → DocumentEffect → Type 0
-HasEffect x c e = (o : Origin) (bytes : List ℕ) (live : Live) (s : State) → HasState o bytes live s x → effect s.document c ≡ Ok e
+-- what is read of attachments has the names of their entries
+same_name : (bytes : List ℕ) (live : Live) (d : Document) (items : List CodeAttItem) (name : List ℕ) → d ≡ document bytes live → map att_item_of items ≡ live.attachments → named_in_document name d ≡ attachment_with name (map att_item_of items)
+same_name bytes live d items name is holds =
+    ap (named_in_document name) is
+    ∙ (position_map (attachment_of bytes) (λ (a : Attachment). bytes_eq (attachment_key a.info) name) live.attachments ∙ ap (attachment_with name) (sym holds))
 
--- and one that it refuses is refused so
-abbrev pub IsRefused : EngineState → Edit → Refusal → Type 0
-IsRefused x c r = (o : Origin) (bytes : List ℕ) (live : Live) (s : State) → HasState o bytes live s x → effect s.document c ≡ Err r
+-- where the engine finds an item the document has it, and both have as many
+tile_there : (x : EngineState) (dims : List Dim) (o : Origin) (bytes : List ℕ) (live : Live) (s : State) → HasState o bytes live s x → subblock_with dims s.document ≡ tile_with dims (map tile_of x.index.tiles.items)
+tile_there x dims o bytes live s has = same_search bytes live s.document x.index.tiles.items dims has.stands.lies.document has.holds.tiles
 
--- where the engine finds a key the document has it
-found_there : (x : EngineState) (dims : List Dim) (r : Option ℕ) → tile_with dims (map tile_of x.index.tiles.items) ≡ r → (o : Origin) (bytes : List ℕ) (live : Live) (s : State) → HasState o bytes live s x → subblock_with dims s.document ≡ r
-found_there x dims r here o bytes live s has = same_search bytes live s.document x.index.tiles.items dims has.stands.lies.document has.holds.tiles ∙ here
+attachment_there : (x : EngineState) (name : List ℕ) (o : Origin) (bytes : List ℕ) (live : Live) (s : State) → HasState o bytes live s x → named_in_document name s.document ≡ attachment_with name (map att_item_of x.index.attachments.items)
+attachment_there x name o bytes live s has = same_name bytes live s.document x.index.attachments.items name has.stands.lies.document has.holds.attachments
 
--- and it has as many subblocks
-as_many : (x : EngineState) (o : Origin) (bytes : List ℕ) (live : Live) (s : State) → HasState o bytes live s x → length s.document.subblocks ≡ length x.index.tiles.items
-as_many x o bytes live s has =
+as_many_tiles : (x : EngineState) (o : Origin) (bytes : List ℕ) (live : Live) (s : State) → HasState o bytes live s x → length s.document.subblocks ≡ length x.index.tiles.items
+as_many_tiles x o bytes live s has =
     ap (λ (d : Document). length d.subblocks) has.stands.lies.document ∙ (length-map live.tiles (subblock_of bytes) ∙ (ap (length {A = Tile}) (sym has.holds.tiles) ∙ length-map x.index.tiles.items tile_of))
 
--- what an edit does that nothing refuses
-pub removal_leads : (x : EngineState) (dims : List Dim) (i : ℕ) → tile_with dims (map tile_of x.index.tiles.items) ≡ Some i → HasEffect x (remove dims) (in_subblocks (out i))
-removal_leads x dims i here o bytes live s has = ap (λ f. found f >>= λ n. Ok (in_subblocks (out n))) (found_there x dims (Some i) here o bytes live s has)
+as_many_attachments : (x : EngineState) (o : Origin) (bytes : List ℕ) (live : Live) (s : State) → HasState o bytes live s x → length s.document.attachments ≡ length x.index.attachments.items
+as_many_attachments x o bytes live s has =
+    ap (λ (d : Document). length d.attachments) has.stands.lies.document ∙ (length-map live.attachments (attachment_of bytes) ∙ (ap (length {A = AttItem}) (sym has.holds.attachments) ∙ length-map x.index.attachments.items att_item_of))
 
-pub removal_unfound : (x : EngineState) (dims : List Dim) → tile_with dims (map tile_of x.index.tiles.items) ≡ None → IsRefused x (remove dims) no_key
-removal_unfound x dims here o bytes live s has = ap (λ f. found f >>= λ n. Ok (in_subblocks (out n))) (found_there x dims None here o bytes live s has)
+-- What refuses an edit before anything else: a piece past its limit, and where an item comes to a list, one with its key, or
+-- that the list is full.
+abbrev pub in_limits : List (List ℕ × ℕ) → Result DocumentEffect Refusal → Result DocumentEffect Refusal
+in_limits [] rest = rest
+in_limits (p ∷ pieces) rest = fits p.0 p.1 >> in_limits pieces rest
 
--- no piece is past its limit
-record AreShort (s : Subblock) : Type 0 where
-  meta : fits s.meta (2 ^ 24) ≡ None
-  pixels : fits s.pixels (2 ^ 26) ≡ None
-  tail : fits s.tail (2 ^ 26) ≡ None
+abbrev pub as_new : Option ℕ → (count limit : ℕ) → DocumentEffect → Result DocumentEffect Refusal
+as_new there count limit e = not_found there >> (unless (nat_lt count limit) (too_many count) >> Ok e)
+
+abbrev pub at_found : Option ℕ → (ℕ → DocumentEffect) → Result DocumentEffect Refusal
+at_found there e = found there >>= λ i. Ok (e i)
+
+-- What each edit does, in the words of the engine.
+pub addition_means : (x : EngineState) (s : Subblock)
+    → Means x (add s) (in_limits (subblock_pieces s.meta s.pixels s.tail) (as_new (tile_with s.info.dims (map tile_of x.index.tiles.items)) (length x.index.tiles.items) (2 ^ 20) (in_subblocks (into (length x.index.tiles.items) s))))
+addition_means x s o bytes live t has = λ j. in_limits (subblock_pieces s.meta s.pixels s.tail)
+    (as_new (tile_there x s.info.dims o bytes live t has j) (as_many_tiles x o bytes live t has j) (2 ^ 20) (in_subblocks (into (as_many_tiles x o bytes live t has j) s)))
+
+pub replacement_means : (x : EngineState) (s : Subblock) → Means x (replace s) (in_limits (subblock_pieces s.meta s.pixels s.tail) (at_found (tile_with s.info.dims (map tile_of x.index.tiles.items)) (λ i. in_subblocks (put i s))))
+replacement_means x s o bytes live t has = λ j. in_limits (subblock_pieces s.meta s.pixels s.tail) (at_found (tile_there x s.info.dims o bytes live t has j) (λ i. in_subblocks (put i s)))
+
+pub removal_means : (x : EngineState) (dims : List Dim) → Means x (remove dims) (at_found (tile_with dims (map tile_of x.index.tiles.items)) (λ i. in_subblocks (out i)))
+removal_means x dims o bytes live t has = λ j. at_found (tile_there x dims o bytes live t has j) (λ i. in_subblocks (out i))
+
+pub attachment_means : (x : EngineState) (a : Attachment)
+    → Means x (attach a) (in_limits (attachment_pieces a.bytes) (as_new (attachment_with (attachment_key a.info) (map att_item_of x.index.attachments.items)) (length x.index.attachments.items) (2 ^ 12) (in_attachments (into (length x.index.attachments.items) a))))
+attachment_means x a o bytes live t has = λ j. in_limits (attachment_pieces a.bytes)
+    (as_new (attachment_there x (attachment_key a.info) o bytes live t has j) (as_many_attachments x o bytes live t has j) (2 ^ 12) (in_attachments (into (as_many_attachments x o bytes live t has j) a)))
+
+pub reattachment_means : (x : EngineState) (a : Attachment)
+    → Means x (reattach a) (in_limits (attachment_pieces a.bytes) (at_found (attachment_with (attachment_key a.info) (map att_item_of x.index.attachments.items)) (λ i. in_attachments (put i a))))
+reattachment_means x a o bytes live t has = λ j. in_limits (attachment_pieces a.bytes) (at_found (attachment_there x (attachment_key a.info) o bytes live t has j) (λ i. in_attachments (put i a)))
+
+pub detachment_means : (x : EngineState) (name : List ℕ) → Means x (detach name) (at_found (attachment_with name (map att_item_of x.index.attachments.items)) (λ i. in_attachments (out i)))
+detachment_means x name o bytes live t has = λ j. at_found (attachment_there x name o bytes live t has j) (λ i. in_attachments (out i))
+
+pub metadata_means : (x : EngineState) (m : Metadata) → Means x (set_meta m) (in_limits (metadata_pieces m.xml m.tail) (Ok (to_metadata m)))
+metadata_means x m o bytes live t has = refl
+
+-- the same told otherwise
+pub means_as : (x : EngineState) (c : Edit) (r r' : Result DocumentEffect Refusal) → Means x c r → r ≡ r' → Means x c r'
+means_as x c r r' means is o bytes live s has = means o bytes live s has ∙ is
+
+-- the first piece past its limit refuses, whatever comes after it
+pub limit_refuses : (pieces : List (List ℕ × ℕ)) (rest : Result DocumentEffect Refusal) (r : Refusal) → first_past_limit pieces ≡ Some r → in_limits pieces rest ≡ Err r
+limit_refuses [] rest r e = absurd (cc (e))
+limit_refuses (p ∷ pieces) rest r e = on_first (fits p.0 p.1) (first_past_limit pieces) (in_limits pieces rest) r e (limit_refuses pieces rest r)
+  where
+    on_first : (f more : Option Refusal) (rest : Result DocumentEffect Refusal) (r : Refusal) → option_or f more ≡ Some r → (more ≡ Some r → rest ≡ Err r) → f >> rest ≡ Err r
+    on_first (Some a) more rest r e go = let one : a ≡ r = cc (e) in ap (λ (z : Refusal). Err z) one
+    on_first None more rest r e go = go e
 
 none_of : (a b : Option Refusal) → option_or a b ≡ None → (a ≡ None) × (b ≡ None)
 none_of None b e = (refl, e)
 none_of (Some r) b e = absurd (cc (e))
 
-are_short : (s : Subblock) → piece_past_limit s.meta s.pixels s.tail ≡ None → AreShort s
-are_short s none =
-    let first = none_of (fits s.meta (2 ^ 24)) (option_or (fits s.pixels (2 ^ 26)) (fits s.tail (2 ^ 26))) none in
-    let second = none_of (fits s.pixels (2 ^ 26)) (fits s.tail (2 ^ 26)) first.1 in
-    record { meta = first.0; pixels = second.0; tail = second.1 }
+pub limit_passes : (pieces : List (List ℕ × ℕ)) (rest : Result DocumentEffect Refusal) → first_past_limit pieces ≡ None → in_limits pieces rest ≡ rest
+limit_passes [] rest e = refl
+limit_passes (p ∷ pieces) rest e = let both = none_of (fits p.0 p.1) (first_past_limit pieces) e in (λ j. both.0 j >> in_limits pieces rest) ∙ limit_passes pieces rest both.1
 
--- a piece within its limit is no longer than that
+-- pieces within their limits are no longer than these
 fits_short : (piece : List ℕ) (limit : ℕ) → fits piece limit ≡ None → length piece ≤ limit
 fits_short piece limit none = elim (cases_Bool (nat_le (length piece) limit)) [
   | inl e ↦ leb-true _ _ e
   | inr e ↦ absurd (let some = rw e at none in cc (some))
 ]
 
-pub short_pieces : (meta pixels tail : List ℕ) → piece_past_limit meta pixels tail ≡ None → (length meta ≤ 2 ^ 24) × (length pixels ≤ 2 ^ 26) × (length tail ≤ 2 ^ 26)
-short_pieces meta pixels tail none =
-    let first = none_of (fits meta (2 ^ 24)) (option_or (fits pixels (2 ^ 26)) (fits tail (2 ^ 26))) none in
-    let second = none_of (fits pixels (2 ^ 26)) (fits tail (2 ^ 26)) first.1 in
-    (fits_short meta (2 ^ 24) first.0, fits_short pixels (2 ^ 26) second.0, fits_short tail (2 ^ 26) second.1)
+pub short_pieces : (pieces : List (List ℕ × ℕ)) → first_past_limit pieces ≡ None → AllByRecursion (λ (p : List ℕ × ℕ). length p.0 ≤ p.1) pieces
+short_pieces [] e = tt
+short_pieces (p ∷ pieces) e = let both = none_of (fits p.0 p.1) (first_past_limit pieces) e in (fits_short p.0 p.1 both.0, short_pieces pieces both.1)
 
--- the first piece past its limit refuses, whatever comes after it
-first_refuses : (a b c : Option Refusal) (rest : Result DocumentEffect Refusal) (r : Refusal) → option_or a (option_or b c) ≡ Some r → a >> (b >> (c >> rest)) ≡ Err r
-first_refuses (Some a) b c rest r e = let one : a ≡ r = cc (e) in ap (λ (z : Refusal). Err z) one
-first_refuses None (Some b) c rest r e = let one : b ≡ r = cc (e) in ap (λ (z : Refusal). Err z) one
-first_refuses None None (Some c) rest r e = let one : c ≡ r = cc (e) in ap (λ (z : Refusal). Err z) one
-first_refuses None None None rest r e = absurd (cc (e))
+-- why an item may not come, and that it may
+pub new_refuses : (there : Option ℕ) (count limit : ℕ) (e : DocumentEffect) (error : EditError) → TellsNew there count limit error → (r : Refusal) × (refusal_of error ≡ Some r) × (as_new there count limit e ≡ Err r)
+new_refuses there count limit e (edits.Duplicate place) told = (duplicate place, refl, ap (λ (f : Option ℕ). as_new f count limit e) told)
+new_refuses there count limit e (edits.TooMany n) told =
+    let full : nat_lt count limit ≡ false = le-ltb _ _ (omega (arith, told.1, told.2)) in
+    (too_many n, refl, λ j. not_found (told.0 j) >> (unless (full j) (too_many (sym told.1 j)) >> Ok e))
+new_refuses there count limit e (edits.TooLong n most) told = absurd told
+new_refuses there count limit e edits.NoKey told = absurd told
+new_refuses there count limit e (edits.Full need n) told = absurd told
+new_refuses there count limit e edits.Memory told = absurd told
+new_refuses there count limit e edits.ImageDevice told = absurd told
+new_refuses there count limit e edits.JournalDevice told = absurd told
 
-pub addition_too_long : (x : EngineState) (s : Subblock) (r : Refusal) → piece_past_limit s.meta s.pixels s.tail ≡ Some r → IsRefused x (add s) r
-addition_too_long x s r long o bytes live t has = first_refuses (fits s.meta (2 ^ 24)) (fits s.pixels (2 ^ 26)) (fits s.tail (2 ^ 26)) _ r long
-
-pub replacement_too_long : (x : EngineState) (s : Subblock) (r : Refusal) → piece_past_limit s.meta s.pixels s.tail ≡ Some r → IsRefused x (replace s) r
-replacement_too_long x s r long o bytes live t has = first_refuses (fits s.meta (2 ^ 24)) (fits s.pixels (2 ^ 26)) (fits s.tail (2 ^ 26)) _ r long
-
-pub addition_found : (x : EngineState) (s : Subblock) (i : ℕ) → piece_past_limit s.meta s.pixels s.tail ≡ None → tile_with s.info.dims (map tile_of x.index.tiles.items) ≡ Some i → IsRefused x (add s) (duplicate i)
-addition_found x s i none here o bytes live t has =
-    let short = are_short s none in
-    let there = found_there x s.info.dims (Some i) here o bytes live t has in
-    λ j. short.meta j >> (short.pixels j >> (short.tail j >> (not_found (there j) >> (unless (nat_lt (length t.document.subblocks) (2 ^ 20)) (too_many (length t.document.subblocks)) >> Ok (in_subblocks (last t.document.subblocks s))))))
-
-pub addition_too_many : (x : EngineState) (s : Subblock) (n : ℕ) → piece_past_limit s.meta s.pixels s.tail ≡ None → tile_with s.info.dims (map tile_of x.index.tiles.items) ≡ None → n ≡ length x.index.tiles.items → 2 ^ 20 ≤ n
-    → IsRefused x (add s) (too_many n)
-addition_too_many x s n none here is many o bytes live t has =
-    let short = are_short s none in
-    let there = found_there x s.info.dims None here o bytes live t has in
-    let count : length t.document.subblocks ≡ n = as_many x o bytes live t has ∙ sym is in
-    let full : nat_lt (length t.document.subblocks) (2 ^ 20) ≡ false = le-ltb _ _ (omega (arith, many, count)) in
-    λ j. short.meta j >> (short.pixels j >> (short.tail j >> (not_found (there j) >> (unless (full j) (too_many (count j)) >> Ok (in_subblocks (last t.document.subblocks s))))))
-
-pub addition_leads : (x : EngineState) (s : Subblock) → piece_past_limit s.meta s.pixels s.tail ≡ None → tile_with s.info.dims (map tile_of x.index.tiles.items) ≡ None → length x.index.tiles.items < 2 ^ 20
-    → HasEffect x (add s) (in_subblocks (into (length x.index.tiles.items) s))
-addition_leads x s none here few o bytes live t has =
-    let short = are_short s none in
-    let there = found_there x s.info.dims None here o bytes live t has in
-    let count = as_many x o bytes live t has in
-    let room : nat_lt (length t.document.subblocks) (2 ^ 20) ≡ true = lt-ltb _ _ (omega (arith, few, count)) in
-    λ j. short.meta j >> (short.pixels j >> (short.tail j >> (not_found (there j) >> (unless (room j) (too_many (length t.document.subblocks)) >> Ok (in_subblocks (into (count j) s))))))
-
-pub replacement_leads : (x : EngineState) (s : Subblock) (i : ℕ) → piece_past_limit s.meta s.pixels s.tail ≡ None → tile_with s.info.dims (map tile_of x.index.tiles.items) ≡ Some i → HasEffect x (replace s) (in_subblocks (put i s))
-replacement_leads x s i none here o bytes live t has =
-    let short = are_short s none in
-    let there = found_there x s.info.dims (Some i) here o bytes live t has in
-    λ j. short.meta j >> (short.pixels j >> (short.tail j >> (found (there j) >>= λ n. Ok (in_subblocks (put n s)))))
-
-pub replacement_unfound : (x : EngineState) (s : Subblock) → piece_past_limit s.meta s.pixels s.tail ≡ None → tile_with s.info.dims (map tile_of x.index.tiles.items) ≡ None → IsRefused x (replace s) no_key
-replacement_unfound x s none here o bytes live t has =
-    let short = are_short s none in
-    let there = found_there x s.info.dims None here o bytes live t has in
-    λ j. short.meta j >> (short.pixels j >> (short.tail j >> (found (there j) >>= λ n. Ok (in_subblocks (put n s)))))
+pub new_passes : (there : Option ℕ) (count limit : ℕ) (e : DocumentEffect) → there ≡ None → count < limit → as_new there count limit e ≡ Ok e
+new_passes there count limit e none few = let room : nat_lt count limit ≡ true = lt-ltb _ _ few in λ j. not_found (none j) >> (unless (room j) (too_many count) >> Ok e)
 
 pub tile_inside : (dims : List Dim) (tiles : List Tile) (i : ℕ) → tile_with dims tiles ≡ Some i → i < length tiles
 tile_inside dims [] i e = absurd (cc (e))
 tile_inside dims (t ∷ tiles) i e = (position-Some (λ (x : Tile). same_key (key x.entry.info.dims) (key dims)) (t ∷ tiles) i t e).0
+
+pub attachment_inside : (name : List ℕ) (items : List AttItem) (i : ℕ) → attachment_with name items ≡ Some i → i < length items
+attachment_inside name [] i e = absurd (cc (e))
+attachment_inside name (a ∷ items) i e = (position-Some (λ (x : AttItem). bytes_eq (attachment_key x.entry.info) name) (a ∷ items) i a e).0
 
 -- as many formers are kept as edits, while each takes one edit back
 bounded : (n left : ℕ) (newer : Items) (fs : List Former) (edits : List (Option CodeSpan)) → HoldBack newer fs edits → n ≤ left → take (within_bounds n left fs) fs ≡ take n fs
@@ -235,12 +245,12 @@ planned_whole x held plan one =
     (All-both (λ (q : Place). 0 < q.span.len) (map att_item_place (omitted (acts_of p.change.attachments.items) i.attachments.items)) _ (attachments_some _) (metadata_some _)))))
 
 -- a plan that does what an edit does is that command of the machine
-pub plan_means : (x : Engine) (c : Edit) (e : DocumentEffect) (held : Option CodeSpan) → HasItsMap x.state → option_to_list held ≡ x.scratch.plan.held.items → HasEffect x.state c e
+pub plan_means : (x : Engine) (c : Edit) (e : DocumentEffect) (held : Option CodeSpan) → HasItsMap x.state → option_to_list held ≡ x.scratch.plan.held.items → Means x.state c (Ok e)
     → IsPlan x.state.index x.state.map x.scratch.region x.scratch.plan → Does x.state.index x.state.map x.scratch.region x.scratch.plan e
     → (o : Origin) (bytes : List ℕ) (live : Live) (s : State) → HasState o bytes live s x.state → GoesBy (λ s. after_edit s c) bytes live s x held
 plan_means x c e held own one leads plan does o bytes live s has =
     let p = x.scratch.plan in
-    let turn : Turn = turn_of p.change x.state.index in
+    let turn : LiveChange = live_change_of p.change x.state.index in
     let d : DoesIn bytes live s x.state.index x.scratch.region p e = does bytes live s (lies_in o bytes live s x.state has own) in
     let l' : Layout = layout_by p s in
     let s' : State = edited s 1 (after e s.document) l' in
@@ -262,8 +272,8 @@ plan_means x c e held own one leads plan does o bytes live s has =
     }
 
 -- where there is no plan the machine refuses the edit, or memory was wanting
-pub no_place_for : (x : EngineState) (c : Edit) (e : DocumentEffect) (fault : PlanFault) → HasItsMap x → HasEffect x c e → HasNoPlan x.index x.map e fault
-    → (o : Origin) (bytes : List ℕ) (live : Live) (s : State) → HasState o bytes live s x → Refuses (λ s. after_edit s c) s (unplanned fault)
+pub no_place_for : (x : EngineState) (c : Edit) (e : DocumentEffect) (fault : PlanFault) → HasItsMap x → Means x c (Ok e) → HasNoPlan x.index x.map e fault
+    → (o : Origin) (bytes : List ℕ) (live : Live) (s : State) → HasState o bytes live s x → RefusesEdit (λ s. after_edit s c) s (unplanned fault)
 no_place_for x c e NoMemory own leads none o bytes live s has = tt
 no_place_for x c e (NoPlaceIn need n) own leads none o bytes live s has =
     ap (λ r. r >>= after_effect s) (leads o bytes live s has) ∙ full_in_order s e (record { need = need; length = n }) (none bytes live s (lies_in o bytes live s x has own))
@@ -284,33 +294,21 @@ unplanned_device (NoPlaceIn need n) = refl
 
 -- an error with which an edit isn't prepared
 unprepared : (go : Goes) (x y : Engine) (r : Result (Option CodeSpan) EditError) (error : EditError) → AsBefore x.state y.state → IsFalse (is_device error)
-    → ((o : Origin) (bytes : List ℕ) (live : Live) (s : State) → HasState o bytes live s x.state → Refuses go s error) → IsErrAnd r (λ e. e ≡ error) → Prepares go x y r
+    → ((o : Origin) (bytes : List ℕ) (live : Live) (s : State) → HasState o bytes live s x.state → RefusesEdit go s error) → IsErrAnd r (λ e. e ≡ error) → Prepares go x y r
 unprepared go x y (Ok held) error was device refuses none = absurd none
 unprepared go x y (Err e) error was device refuses is = record {
   same = was;
   ready = tt;
-  refusal = subst (λ (z : EditError). IsFalse (is_device z) × ((o : Origin) (bytes : List ℕ) (live : Live) (s : State) → HasState o bytes live s x.state → Refuses go s z)) (sym is) (device, refuses);
+  refusal = subst (λ (z : EditError). IsFalse (is_device z) × ((o : Origin) (bytes : List ℕ) (live : Live) (s : State) → HasState o bytes live s x.state → RefusesEdit go s z)) (sym is) (device, refuses);
 }
 
 -- there is no plan
-pub no_plan : (x y : Engine) (c : Edit) (e : DocumentEffect) (r : Result (Option CodeSpan) EditError) (fault : PlanFault) → AsBefore x.state y.state → HasItsMap x.state → HasEffect x.state c e → HasNoPlan x.state.index x.state.map e fault
+pub no_plan : (x y : Engine) (c : Edit) (e : DocumentEffect) (r : Result (Option CodeSpan) EditError) (fault : PlanFault) → AsBefore x.state y.state → HasItsMap x.state → Means x.state c (Ok e) → HasNoPlan x.state.index x.state.map e fault
     → IsErrAnd r (λ z. z ≡ unplanned fault) → Prepares (λ s. after_edit s c) x y r
 no_plan x y c e r fault was own leads none is = unprepared (λ s. after_edit s c) x y r (unplanned fault) was (unplanned_device fault) (no_place_for x.state c e fault own leads none) is
 
 -- the edit is refused before it is planned
-pub refused : (x : Engine) (c : Edit) (r : Result (Option CodeSpan) EditError) (error : EditError) (refusal : Refusal) → refusal_of error ≡ Some refusal → IsRefused x.state c refusal → IsErrAnd r (λ z. z ≡ error) → Prepares (λ s. after_edit s c) x x r
+pub refused : (x : Engine) (c : Edit) (r : Result (Option CodeSpan) EditError) (error : EditError) (refusal : Refusal) → refusal_of error ≡ Some refusal → Means x.state c (Err refusal) → IsErrAnd r (λ z. z ≡ error) → Prepares (λ s. after_edit s c) x x r
 refused x c r error refusal tells is same =
     unprepared (λ s. after_edit s c) x x r error (before_here x.state) (no_device error refusal tells)
     (λ o bytes live s has. subst (λ (z : Option Refusal). IfSome z (λ w. after_edit s c ≡ Err w)) (sym tells) (ap (λ z. z >>= after_effect s) (is o bytes live s has))) same
-
--- one more subblock may not come
-pub addition_refused : (x : Engine) (s : Subblock) (r : Result (Option CodeSpan) EditError) (error : EditError) → piece_past_limit s.meta s.pixels s.tail ≡ None → TellsNew x.state.index s.info.dims error → IsErrAnd r (λ z. z ≡ error)
-    → Prepares (λ t. after_edit t (add s)) x x r
-addition_refused x s r (edits.Duplicate place) none told is = refused x (add s) r (edits.Duplicate place) (duplicate place) refl (addition_found x.state s place none told) is
-addition_refused x s r (edits.TooMany count) none told is = refused x (add s) r (edits.TooMany count) (too_many count) refl (addition_too_many x.state s count none told.0 told.1 told.2) is
-addition_refused x s r (edits.TooLong n limit) none told is = absurd told
-addition_refused x s r edits.NoKey none told is = absurd told
-addition_refused x s r (edits.Full need n) none told is = absurd told
-addition_refused x s r edits.Memory none told is = absurd told
-addition_refused x s r edits.ImageDevice none told is = absurd told
-addition_refused x s r edits.JournalDevice none told is = absurd told

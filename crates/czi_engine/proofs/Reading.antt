@@ -9,7 +9,7 @@ use Rattle.czi_links.specs.Record.{Bytes}
 use Rattle.czi_rig.specs.Disk.{Covers}
 use Rattle.czi_machine.specs.Cover.{cover}
 use Rattle.czi_machine.specs.State.{State}
-use Rattle.czi_machine.specs.Turn.{Turn}
+use Rattle.czi_machine.specs.LiveChange.{LiveChange}
 use Rattle.czi_machine.specs.Written.{Piece, piece_span, over, all_over, own_byte, byte_of}
 use Rattle.czi_machine.proofs.Clear.{HeaderAt, header_at_front}
 use Rattle.czi_machine.proofs.Cover.{side, low, here, high}
@@ -83,6 +83,6 @@ none_covered [] (l ∷ ls) k none there =
     ⊎_elim (λ own. own_none (piece_of l) k both.1 own.0 own.1) (λ more. none_covered [] ls k both.0 more) there
 none_covered (w ∷ ws) ls k none there = none_covered ws ls k (no_first (byte_of (pieces_of (ws ++ ls)) k) (own_byte (piece_of w) k) none).0 there
 
-pub commit_leaves : (start bytes : List ℕ) (live : Live) (s s' : State) (t : Turn) (c : Step) → StandsOn start bytes live s → IsPlanned bytes live s s' t c → Covers (ranges c.commits.links) 100 → ⊥
+pub commit_leaves : (start bytes : List ℕ) (live : Live) (s s' : State) (t : LiveChange) (c : Step) → StandsOn start bytes live s → IsPlanned bytes live s s' t c → Covers (ranges c.commits.links) 100 → ⊥
 commit_leaves start bytes live s s' t c on plan =
     none_covered c.writes c.commits.links 100 (none_pending bytes live s s' t (pieces_in c) 100 on.lies on.tidy plan.leads plan.spans plan.plans.around.inside (omega arith) (omega arith))

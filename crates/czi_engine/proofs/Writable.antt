@@ -4,12 +4,12 @@ use Rattle.std.specs.List.{AllByRecursion, find, flat_map}
 use Rattle.std.proofs.lemmas.Bool.{cases_lt, cases_Bool, leb-true, ltb-true}
 use Rattle.czi_format.specs.Live.{Live}
 use Rattle.czi_format.specs.Space.{from_to, left_of, without, free_runs, place_for, place_in, place_past}
-use Rattle.czi_format.specs.Span.{Span, end_of, meets, round32}
+use Rattle.czi_format.specs.Span.{Span, end_of, meets, round32, LiesInOne}
 use Rattle.czi_links.specs.Record.{Bytes}
-use Rattle.czi_machine.specs.Cover.{cover, LiesInOne}
+use Rattle.czi_machine.specs.Cover.{cover}
 use Rattle.czi_machine.specs.Holes.{interior, holes}
 use Rattle.czi_machine.specs.Places.{space_of}
-use Rattle.czi_machine.specs.Sound.{IsTidy, usable_held}
+use Rattle.czi_machine.specs.Sound.{IsDisjointState, usable_held}
 use Rattle.czi_machine.specs.State.{State, held}
 use Rattle.czi_machine.proofs.Cover.{between_in, without_in, without_out}
 use Rattle.czi_machine.proofs.Placing.{held_parts, in_one_covers}
@@ -24,7 +24,7 @@ use Rattle.czi_engine.proofs.Outside.{covers, interiors_fewer}
 use Rattle.czi_machine.proofs.Restated.{one_ok}
 
 -- a place in a hole, whichever spans are held: those that can be used again are enough
-hole_of : (s : State) (held' : List Span) (k : ℕ) → IsTidy s → HoldsUsable s held' → 1 ≤ cover (holes held' s.layout.deleted) k → 1 ≤ cover (holes (held s) s.layout.deleted) k
+hole_of : (s : State) (held' : List Span) (k : ℕ) → IsDisjointState s → HoldsUsable s held' → 1 ≤ cover (holes held' s.layout.deleted) k → 1 ≤ cover (holes (held s) s.layout.deleted) k
 hole_of s held' k is holds some = elim (cases_lt 0 (cover held' k)) [
   | inl h ↦ absurd (omega (arith, some, without_in held' (map interior s.layout.deleted) k h))
   | inr h ↦ elim (cases_lt 0 (cover (usable_held s) k)) [

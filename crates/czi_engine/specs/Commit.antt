@@ -8,7 +8,7 @@ use Rattle.czi_machine.specs.Edit.{DocumentEffect, after}
 use Rattle.czi_machine.specs.Laws.{Leads}
 use Rattle.czi_machine.specs.Planned.{Plans}
 use Rattle.czi_machine.specs.State.{State}
-use Rattle.czi_machine.specs.Turn.{Turn, turned, SpansAt}
+use Rattle.czi_machine.specs.LiveChange.{LiveChange, changed_live, SpansAt}
 use Rattle.czi_machine.specs.Written.{Piece}
 use Rattle.czi_vault.specs.Recovered.{with_links}
 
@@ -34,10 +34,10 @@ abbrev pub IsStep : List ℕ → Step → Type 0
 IsStep bytes c = Fits (length bytes) c
 
 -- Its pieces are the plan of a command, which leads from one state to another and turns what is live.
-pub record IsPlanned (bytes : List ℕ) (live : Live) (s s' : State) (t : Turn) (c : Step) : Type 0 where
+pub record IsPlanned (bytes : List ℕ) (live : Live) (s s' : State) (t : LiveChange) (c : Step) : Type 0 where
   pub effect : DocumentEffect
   pub leads : Leads s s'
   pub document : s'.document ≡ after effect s.document
-  pub spans : SpansAt s'.layout (turned t live)
+  pub spans : SpansAt s'.layout (changed_live t live)
   pub plans : Plans bytes s.layout s'.layout live effect t (pieces_in c)
   pub length : c.commits.committed ≡ s'.layout.length

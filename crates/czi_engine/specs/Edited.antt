@@ -11,7 +11,7 @@ use Rattle.czi_rig.specs.Moments.{Devices, devices, Throughout}
 use Rattle.czi_rig.specs.Spans.{EachTwo}
 use Rattle.czi_rig.specs.Faults.{Faults, fault_at}
 use Rattle.czi_engine.specs.Devices.{edit_device}
-use Rattle.czi_engine.specs.Editing.{Accepts, Alike, AsBefore, DuringEdit, Goes, Refuses, RefusesToo, is_device}
+use Rattle.czi_engine.specs.Editing.{Accepts, Alike, AsBefore, DuringEdit, Goes, RefusesEdit, RefusesToo, is_device}
 use Rattle.czi_engine.specs.Standing.{HasState, Origin, StandsOnRig}
 use Rattle.czi_engine.specs.declared.engine.EngineState.{EngineState}
 use Rattle.czi_engine.specs.declared.error.EditError.{EditError}
@@ -36,7 +36,7 @@ pub record Edits {D : Type 0} (rig : Ghosts D) (go : Goes) (before after : D) (o
   pub up : OnOk result (IsFalse new.down)
   pub armed : OnOk result (IsTrue new.journal.armed)
   -- A refusal is the machine's, and what the machine refuses is refused before any device is asked.
-  pub refused : IfErr result (λ error. OnImage (rig.state before) old (λ o s. Refuses go s error))
+  pub refused : IfErr result (λ error. OnImage (rig.state before) old (λ o s. RefusesEdit go s error))
   pub refuses : OnImage (rig.state before) old (λ o s. RefusesToo go s result)
   -- It leaves all as it was, and so does want of memory.
   pub quiet : IfErr result (λ error. IsFalse (is_device error) → (after ≡ before) × AsBefore old new)

@@ -87,8 +87,8 @@ refusal_of Memory = None
 refusal_of ImageDevice = None
 refusal_of JournalDevice = None
 
-abbrev pub Refuses : Goes → MachineState → EditError → Type 0
-Refuses go s error = IfSome (refusal_of error) (λ refusal. go s ≡ Err refusal)
+abbrev pub RefusesEdit : Goes → MachineState → EditError → Type 0
+RefusesEdit go s error = IfSome (refusal_of error) (λ refusal. go s ≡ Err refusal)
 
 -- where the machine refuses, so does the answer, or memory is wanting
 abbrev pub RefusesToo : {T : Type 0} → Goes → MachineState → Result T EditError → Type 0

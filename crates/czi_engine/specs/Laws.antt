@@ -13,7 +13,7 @@ use Rattle.czi_image.specs.Holds.{IsSettled}
 use Rattle.czi_links.specs.Record.{Bytes}
 use Rattle.czi_machine.specs.Places.{space_of}
 use Rattle.czi_machine.specs.State.{State, held}
-use Rattle.czi_machine.specs.Turn.{Turn, turned}
+use Rattle.czi_machine.specs.LiveChange.{LiveChange, changed_live}
 use Rattle.czi_machine.specs.Written.{Wrote}
 use Rattle.czi_rig.specs.Disk.{Covers, SameOutside, IsAtRest}
 use Rattle.czi_rig.specs.Moments.{Devices}
@@ -74,12 +74,12 @@ MadeWrote = (bytes : List ℕ) (c : Step) → IsStep bytes c → Wrote bytes (ma
 
 -- after a command was committed, the bytes have the state to which the command leads
 abbrev pub CommitStands : Type 0
-CommitStands = (start bytes : List ℕ) (live : Live) (s s' : State) (t : Turn) (c : Step) → StandsOn start bytes live s → IsPlanned bytes live s s' t c → IsStep bytes c
-    → StandsOn start (made_of c bytes) (turned t live) s'
+CommitStands = (start bytes : List ℕ) (live : Live) (s s' : State) (t : LiveChange) (c : Step) → StandsOn start bytes live s → IsPlanned bytes live s s' t c → IsStep bytes c
+    → StandsOn start (made_of c bytes) (changed_live t live) s'
 
 -- and while it is, everything that a crash may leave opens as the state before it or as the one after it
 abbrev pub CommitOpens : Type 0
-CommitOpens = (start bytes image journal : List ℕ) (live : Live) (s s' : State) (t : Turn) (c : Step) (high : AreHigh s) → StandsOn start bytes live s → IsPlanned bytes live s s' t c → IsStep bytes c
+CommitOpens = (start bytes image journal : List ℕ) (live : Live) (s s' : State) (t : LiveChange) (c : Step) (high : AreHigh s) → StandsOn start bytes live s → IsPlanned bytes live s s' t c → IsStep bytes c
     → StandsOr (view_of bytes s high) (made_of c bytes) image journal → EitherSide start image journal s s'
 
 -- writes into free space are free in the view of a state, whether all spans of formers are held or those that can be used again
@@ -98,7 +98,7 @@ PlaceInView = (start bytes : List ℕ) (live : Live) (s : State) (high : AreHigh
 
 -- while a command is committed, no write touches an item that the document before it and the one after it both need
 abbrev pub CommitTouches : Type 0
-CommitTouches = (start bytes : List ℕ) (live : Live) (s s' : State) (t : Turn) (c : Step) (high : AreHigh s) → StandsOn start bytes live s → IsPlanned bytes live s s' t c → IsStep bytes c → BringsApart live t
+CommitTouches = (start bytes : List ℕ) (live : Live) (s s' : State) (t : LiveChange) (c : Step) (high : AreHigh s) → StandsOn start bytes live s → IsPlanned bytes live s s' t c → IsStep bytes c → BringsApart live t
     → AlikeInItems (view_of bytes s high) (made_of c bytes)
 
 -- free writes leave the bytes of the view
@@ -107,4 +107,4 @@ WrittenHasBytes = (bytes : List ℕ) (s : State) (high : AreHigh s) (c : Step) �
 
 -- no link of a planned command is written over the first byte of UpdatePending
 abbrev pub CommitLeaves100 : Type 0
-CommitLeaves100 = (start bytes : List ℕ) (live : Live) (s s' : State) (t : Turn) (c : Step) → StandsOn start bytes live s → IsPlanned bytes live s s' t c → Covers (ranges c.commits.links) 100 → ⊥
+CommitLeaves100 = (start bytes : List ℕ) (live : Live) (s s' : State) (t : LiveChange) (c : Step) → StandsOn start bytes live s → IsPlanned bytes live s s' t c → Covers (ranges c.commits.links) 100 → ⊥

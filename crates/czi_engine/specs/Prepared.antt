@@ -3,21 +3,21 @@ use Rattle.std.specs.Prelude.{◌≡◌, ℕ, ◌+◌, ◌*◌, ◌≤◌, List,
 use Rattle.std.specs.Option.{ForSome}
 use Rattle.czi_format.specs.Live.{Live}
 use Rattle.czi_image.specs.Applied.{HasRoom}
-use Rattle.czi_image.specs.Change.{turn_of}
+use Rattle.czi_image.specs.Change.{live_change_of}
 use Rattle.czi_machine.specs.Edit.{DocumentEffect, after}
 use Rattle.czi_machine.specs.Laws.{Leads}
 use Rattle.czi_machine.specs.Machine.{one_more}
 use Rattle.czi_machine.specs.Places.{can_be_used}
 use Rattle.czi_machine.specs.Planned.{Plans}
 use Rattle.czi_machine.specs.State.{State as MachineState, items_of, item_places, item_spans, spans_of, not_among}
-use Rattle.czi_machine.specs.Turn.{turned, SpansAt}
+use Rattle.czi_machine.specs.LiveChange.{changed_live, SpansAt}
 use Rattle.czi_num.specs.Span.{span_of}
 use Rattle.czi_num.specs.declared.span.Span.{Span as CodeSpan}
 use Rattle.czi_plan.specs.Does.{layout_by}
 use Rattle.czi_plan.specs.Pieces.{pieces_of}
 use Rattle.czi_plan.specs.Plan.{IsPlan}
-use Rattle.czi_space.specs.State.{IsWhole}
-use Rattle.czi_engine.specs.Editing.{AsBefore, Goes, Refuses, is_device}
+use Rattle.czi_format.specs.Span.{IsWhole}
+use Rattle.czi_engine.specs.Editing.{AsBefore, Goes, RefusesEdit, is_device}
 use Rattle.czi_engine.specs.Moment.{BringsApart}
 use Rattle.czi_engine.specs.Standing.{HasState, Origin}
 use Rattle.czi_engine.specs.declared.engine.Engine.{Engine}
@@ -31,9 +31,9 @@ pub record GoesBy (go : Goes) (bytes : List ℕ) (live : Live) (s : MachineState
   pub effect : DocumentEffect
   pub document : state.document ≡ after effect s.document
   pub layout : state.layout ≡ layout_by x.scratch.plan s
-  pub spans : SpansAt state.layout (turned (turn_of x.scratch.plan.change x.state.index) live)
-  pub plans : Plans bytes s.layout state.layout live effect (turn_of x.scratch.plan.change x.state.index) (pieces_of x.scratch.region x.scratch.plan)
-  pub apart : BringsApart live (turn_of x.scratch.plan.change x.state.index)
+  pub spans : SpansAt state.layout (changed_live (live_change_of x.scratch.plan.change x.state.index) live)
+  pub plans : Plans bytes s.layout state.layout live effect (live_change_of x.scratch.plan.change x.state.index) (pieces_of x.scratch.region x.scratch.plan)
+  pub apart : BringsApart live (live_change_of x.scratch.plan.change x.state.index)
   pub formers : state.formers ≡ record { document = s.document; items = items_of s.layout; edits = 1 } ∷ take 31 s.formers
   pub holds : map span_of (option_to_list held) ≡ spans_of (filter can_be_used (not_among (item_spans (items_of state.layout)) (item_places (items_of s.layout))))
   pub number : state.number ≡ one_more s.number
@@ -55,7 +55,7 @@ pub record IsPrepared (go : Goes) (x : Engine) (held : Option CodeSpan) : Type 0
 pub record Prepares (go : Goes) (old new : Engine) (prepared : Result (Option CodeSpan) EditError) : Type 0 where
   pub same : AsBefore old.state new.state
   pub ready : IfOk prepared (IsPrepared go new)
-  pub refusal : IfErr prepared (λ error. IsFalse (is_device error) × ((o : Origin) (bytes : List ℕ) (live : Live) (s : MachineState) → HasState o bytes live s old.state → Refuses go s error))
+  pub refusal : IfErr prepared (λ error. IsFalse (is_device error) × ((o : Origin) (bytes : List ℕ) (live : Live) (s : MachineState) → HasState o bytes live s old.state → RefusesEdit go s error))
 
 -- all but the journal, its buffer and whether the engine is down is as it was
 pub record KeepsPlan (old new : Engine) : Type 0 where

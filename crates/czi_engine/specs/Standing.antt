@@ -6,7 +6,7 @@ use Rattle.czi_format.specs.Bytes.{bytes_at}
 use Rattle.czi_format.specs.Layout.{Layout, HasLayout}
 use Rattle.czi_format.specs.Live.{Live, document}
 use Rattle.czi_format.specs.Shows.{Reaches}
-use Rattle.czi_format.specs.Span.{Span}
+use Rattle.czi_format.specs.Span.{Span, IsWhole}
 use Rattle.czi_format.specs.Space.{same_span, with_held}
 use Rattle.czi_machine.specs.Places.{can_be_used}
 use Rattle.czi_machine.specs.State.{Items, Former, State as MachineState, items_of, item_places, item_spans, spans_of, not_among}
@@ -20,7 +20,7 @@ use Rattle.czi_image.specs.Holds.{Holds, LiesAs}
 use Rattle.czi_links.specs.declared.head.SlotHead.{SlotHead}
 use Rattle.czi_opening.specs.declared.opening.Opened.{Opened}
 use Rattle.czi_opening.specs.Answers.{IsJournal}
-use Rattle.czi_space.specs.State.{Has, IsWhole}
+use Rattle.czi_space.specs.State.{Has}
 use Rattle.czi_vault.specs.Recovered.{Recovered}
 use Rattle.czi_engine.specs.Stands.{StandsOn}
 use Rattle.czi_engine.specs.declared.engine.EngineState.{EngineState}

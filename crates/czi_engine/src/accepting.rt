@@ -87,7 +87,7 @@ impl Engine {
     }
 
     /// Takes the plan over, and the span that its command holds back. It takes no memory.
-    pub(crate) fn accept(&mut self, held: Option<Span>)
+    pub(crate) fn take_over(&mut self, held: Option<Span>)
         requires plan { IsPlan self.old.state.index self.old.state.map self.old.scratch.region self.old.scratch.plan }
         requires memory { HasMemory self.old }
         requires own_map { HasItsMap self.old.state }

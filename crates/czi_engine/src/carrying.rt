@@ -29,7 +29,7 @@ use czi_vault::VaultFault;
 
 impl Engine {
     /// Carries the plan out. After a fault of a device the engine is down.
-    pub(crate) fn carry<R: Rig>(&mut self, rig: &mut R) -> Result<(), EditError>
+    pub(crate) fn commit_prepared<R: Rig>(&mut self, rig: &mut R) -> Result<(), EditError>
         requires stands { StandsOnRig (R.state rig.old) self.old.state }
         requires up { IsFalse self.old.state.down }
         requires plan { IsPlan self.old.state.index self.old.state.map self.old.scratch.region self.old.scratch.plan }

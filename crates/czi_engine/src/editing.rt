@@ -21,9 +21,9 @@ impl Engine {
         requires prepared { (go : Goes) × IsPrepared go self.old held }
         ensures { (go : Goes) → IsPrepared go self.old held → Edits R.Rig go rig.old rig.new self.old.state self.new.state result }
     {
-        match self.carry(rig) {
+        match self.commit_prepared(rig) {
             Ok(()) => {
-                self.accept(held);
+                self.take_over(held);
                 Ok(self.state.number)
             }
             Err(error) => Err(error),

@@ -1,6 +1,7 @@
 //! The engine and what it shows.
 
 ghost use Rattle.std.specs.Prelude.{◌≡◌, vec_len};
+ghost use Rattle.czi_links.specs.declared.numbers.TheConstants.{SLOT_LEN};
 
 use czi_image::{Index, Tile};
 use czi_journal::Journal;
@@ -30,7 +31,7 @@ pub(crate) struct Scratch {
     pub(crate) region: Region,
     pub(crate) plan: EditPlan,
     pub(crate) slot: Vec<u8>,
-    pub ghost whole: { vec_len slot ≡ 262144 },
+    pub ghost whole: { vec_len slot ≡ SLOT_LEN },
 }
 
 /// An image beside its journal, both opened on a rig. Every call that takes a rig is to be given the one on which the

@@ -5,15 +5,20 @@
 ghost use Rattle.czi_engine.specs.Laws.{DocumentOpens, ItselfRests, RestsStands, HeldStays, AloneShows, WrittenHasBytes, CommitLeaves100, HolesAreHigh, StandsOutside, RecoveredOpens, ViewOpens, OpenedStands, MadeWrote, CommitStands, CommitOpens, FreeInView, FilledInView, PlaceInView, CommitTouches};
 
 mod accepting;
+mod attachments;
 mod carrying;
+mod creating;
 mod editing;
 mod engine;
 mod error;
 mod limits;
+mod metadata;
 mod opening;
+mod planning;
 mod preparing;
 mod subblocks;
 
+pub use creating::CreateError;
 pub use czi_opening::{ImageRefusal, OpenError};
 pub use engine::Engine;
 pub use error::EditError;

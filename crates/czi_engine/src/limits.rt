@@ -1,19 +1,12 @@
-//! The limits on what an edit brings.
+//! What refuses an edit before it is planned: limits on what it brings, and keys.
 
-ghost use Rattle.std.specs.Prelude.{◌≡◌, ◌^◌, ◌<◌, None, length, map, IfErr, OnOk};
-ghost use Rattle.czi_doc.specs.View.{dims_of};
-ghost use Rattle.czi_image.specs.View.{tile_of};
+ghost use Rattle.std.specs.Prelude.{◌≡◌, ◌<◌, None, Some, IfOk, IfErr, OnOk};
 ghost use Rattle.czi_machine.specs.Edit.{fits};
-ghost use Rattle.czi_plan.specs.Search.{tile_with};
-ghost use Rattle.czi_engine.specs.Limits.{TellsNew, TellsOf, piece_past_limit};
+ghost use Rattle.czi_engine.specs.Limits.{TellsNew, TellsOf, attachment_pieces, first_past_limit, metadata_pieces, subblock_pieces};
+ghost use Rattle.czi_engine.specs.declared.error.EditError.TheVariants.{NoKey};
 
 use crate::error::EditError;
-use czi_doc::{DATA_LIMIT, Dims, TEXT_LIMIT};
-use czi_image::Index;
-use czi_plan::tile_with;
-
-/// How many subblocks a document has at most.
-const SUBBLOCKS: usize = 1 << 20;
+use czi_doc::{DATA_LIMIT, TEXT_LIMIT};
 
 /// Whether a piece is within its limit.
 fn check_piece(piece: &[u8], limit: usize) -> Result<(), EditError>
@@ -30,27 +23,54 @@ fn check_piece(piece: &[u8], limit: usize) -> Result<(), EditError>
 }
 
 /// Whether the pieces of a new subblock are within their limits. The first that isn't is told.
-pub(crate) fn check_pieces(meta: &[u8], pixels: &[u8], tail: &[u8]) -> Result<(), EditError>
-    ensures within { OnOk result (piece_past_limit meta.now pixels.now tail.now ≡ None) }
-    ensures past { IfErr result (TellsOf (piece_past_limit meta.now pixels.now tail.now)) }
+pub(crate) fn check_subblock(meta: &[u8], pixels: &[u8], tail: &[u8]) -> Result<(), EditError>
+    ensures within { OnOk result (first_past_limit (subblock_pieces meta.now pixels.now tail.now) ≡ None) }
+    ensures past { IfErr result (TellsOf (first_past_limit (subblock_pieces meta.now pixels.now tail.now))) }
 {
     check_piece(meta, TEXT_LIMIT)?;
     check_piece(pixels, DATA_LIMIT)?;
     check_piece(tail, DATA_LIMIT)
 }
 
-/// Whether one more subblock may come with the key of these dimensions: none has it, and the list isn't full.
-pub(crate) fn check_new(index: &Index, dims: &Dims) -> Result<(), EditError>
-    ensures unknown { OnOk result (tile_with (dims_of dims.now) (map tile_of index.now.tiles.items) ≡ None) }
-    ensures room { OnOk result (length index.now.tiles.items < 2 ^ 20) }
-    ensures told { IfErr result (TellsNew index.now (dims_of dims.now)) }
+/// Whether the bytes of a new attachment are within their limit.
+pub(crate) fn check_attachment(bytes: &[u8]) -> Result<(), EditError>
+    ensures within { OnOk result (first_past_limit (attachment_pieces bytes.now) ≡ None) }
+    ensures past { IfErr result (TellsOf (first_past_limit (attachment_pieces bytes.now))) }
 {
-    if let Some(place) = tile_with(index, dims) {
+    check_piece(bytes, DATA_LIMIT)
+}
+
+/// Whether the pieces of new metadata are within their limits. The first that isn't is told.
+pub(crate) fn check_metadata(xml: &[u8], tail: &[u8]) -> Result<(), EditError>
+    ensures within { OnOk result (first_past_limit (metadata_pieces xml.now tail.now) ≡ None) }
+    ensures past { IfErr result (TellsOf (first_past_limit (metadata_pieces xml.now tail.now))) }
+{
+    check_piece(xml, TEXT_LIMIT)?;
+    check_piece(tail, DATA_LIMIT)
+}
+
+/// Whether one more item may come to a list of so many: none has its key, as was looked for, and the list isn't full.
+pub(crate) fn check_new(there: Option<usize>, count: usize, limit: usize) -> Result<(), EditError>
+    ensures unknown { OnOk result (there ≡ None) }
+    ensures room { OnOk result (count < limit) }
+    ensures told { IfErr result (TellsNew there count limit) }
+{
+    if let Some(place) = there {
         return Err(EditError::Duplicate(place as u64));
     }
-    let count = index.tiles.len();
-    if count >= SUBBLOCKS {
+    if count >= limit {
         return Err(EditError::TooMany(count as u64));
     }
     Ok(())
+}
+
+/// The place of the item with a key, as was looked for.
+pub(crate) fn check_known(there: Option<usize>) -> Result<usize, EditError>
+    ensures place { IfOk result (λ i. there ≡ Some i) }
+    ensures told { IfErr result (λ error. (error ≡ NoKey) × (there ≡ None)) }
+{
+    match there {
+        Some(place) => Ok(place),
+        None => Err(EditError::NoKey),
+    }
 }

@@ -20,7 +20,7 @@ ghost use Rattle.czi_engine.specs.Standing.{IsOf, IsOpened, StandsOnRig};
 
 use crate::engine::{Engine, EngineState, Scratch};
 use czi_image::Index;
-use czi_journal::SLOT_LEN;
+use czi_links::SLOT_LEN;
 use czi_opening::{OpenError, Opened, close, open};
 use czi_plan::EditPlan;
 use czi_region::Region;
@@ -74,7 +74,7 @@ impl Engine {
     }
 
     /// The engine of files that were opened.
-    fn of(alloc: Global, opened: Opened) -> Result<Engine, AllocError>
+    pub(crate) fn of(alloc: Global, opened: Opened) -> Result<Engine, AllocError>
         ensures of { IfOk result (λ e. IsOf opened e.state) }
         ensures up { IfOk result (λ e. e.state.down ≡ false) }
         ensures no_edits { IfOk result (λ e. (e.state.edits.items ≡ []) × (e.state.number ≡ 0)) }

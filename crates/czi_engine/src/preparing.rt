@@ -1,52 +1,42 @@
-//! Preparing an edit: its refusals, its plan, and all memory for it.
+//! Preparing an edit: what refuses it, or its plan, with all memory for it. The answer is the span that it holds back.
 
-ghost use Rattle.std.specs.Prelude.{◌≡◌, ◌≤◌, length, option_to_list};
-ghost use Rattle.czi_doc.specs.View.{dims_of};
-ghost use Rattle.czi_machine.specs.Edit.{add, remove, replace};
+ghost use Rattle.std.specs.Prelude.{◌≡◌, ◌==◌, ◌≤◌, length, not};
+ghost use Rattle.std.specs.List.{prefix_len};
+ghost use Rattle.czi_doc.specs.View.{att_of, dims_of};
+ghost use Rattle.czi_format.specs.Key.{attachment_key};
+ghost use Rattle.czi_machine.specs.Edit.{add, attach, detach, reattach, remove, replace, set_meta};
 ghost use Rattle.czi_machine.specs.Machine.{after_edit};
+ghost use Rattle.czi_plan.specs.Attaching.{attachment_in, metadata_in};
 ghost use Rattle.czi_plan.specs.Bringing.{subblock_in};
 ghost use Rattle.czi_engine.specs.Prepared.{Prepares};
 ghost use Rattle.czi_engine.specs.Standing.{AreWhole, HasItsMap};
 
 use crate::engine::Engine;
 use crate::error::EditError;
-use crate::limits::{check_new, check_pieces};
-use czi_doc::{Dims, EntryInfo};
+use crate::limits::{check_attachment, check_known, check_metadata, check_new, check_subblock};
+use crate::planning::{Contents, Task};
+use czi_doc::{AttInfo, Dims, EntryInfo};
+use czi_format::{MOST_ATTACHMENTS, MOST_SUBBLOCKS};
 use czi_num::Span;
-use czi_plan::{EditPlan, plan_add, plan_remove_at, plan_replace_at, tile_with};
+use czi_plan::{attachment_with, tile_with};
 
-/// The span that a plan holds back, if it does one.
-fn held_by(plan: &EditPlan) -> Option<Span>
-    ensures { length plan.now.held.items ≤ 1 → option_to_list result ≡ plan.now.held.items }
+/// How many bytes of a name stand before the first zero byte.
+fn name_len(name: &[u8]) -> usize
+    ensures len { result ≡ prefix_len (λ b. not (b == 0)) name.now }
+    ensures inside { result ≤ length name.now }
 {
-    plan.held.first().copied()
+    name.iter().take_while(|byte| **byte != 0).count()
+}
+
+/// The key of an attachment: its name up to the first zero byte.
+fn key_of(info: &AttInfo) -> &[u8]
+    ensures { result.now ≡ attachment_key (att_of info.now) }
+{
+    &info.name[..name_len(&info.name)]
 }
 
 impl Engine {
-    /// Plans the removal of a subblock, and takes all memory for it. The answer is the span that it holds back.
-    pub(crate) fn prepare_removal(&mut self, dims: &Dims) -> Result<Option<Span>, EditError>
-        requires own_map { HasItsMap self.old.state }
-        requires whole { AreWhole self.old.state.edits.items }
-        ensures { Prepares (λ s. after_edit s (remove (dims_of dims.now))) self.old self.new result }
-    {
-        let Some(i) = tile_with(&self.state.index, dims) else {
-            return Err(EditError::NoKey);
-        };
-        self.scratch.region.reset();
-        self.scratch.plan.clear();
-        plan_remove_at(
-            self.scratch.alloc,
-            &self.state.index,
-            &self.state.map,
-            i,
-            &mut self.scratch.region,
-            &mut self.scratch.plan,
-        )?;
-        self.take_memory()?;
-        Ok(held_by(&self.scratch.plan))
-    }
-
-    /// Plans a new subblock, and takes all memory for it.
+    /// Prepares a new subblock.
     pub(crate) fn prepare_addition(
         &mut self,
         info: &EntryInfo,
@@ -58,27 +48,18 @@ impl Engine {
         requires whole { AreWhole self.old.state.edits.items }
         ensures { Prepares (λ s. after_edit s (add (subblock_in info.now meta.now pixels.now tail.now))) self.old self.new result }
     {
-        check_pieces(meta, pixels, tail)?;
-        check_new(&self.state.index, &info.dims)?;
-        self.scratch.region.reset();
-        self.scratch.plan.clear();
-        plan_add(
-            self.scratch.alloc,
-            &self.state.index,
-            &self.state.map,
+        check_subblock(meta, pixels, tail)?;
+        let there = tile_with(&self.state.index, &info.dims);
+        check_new(there, self.state.index.tiles.len(), MOST_SUBBLOCKS)?;
+        self.prepare(Task::Add(Contents {
             info,
             meta,
             pixels,
             tail,
-            &mut self.scratch.region,
-            &mut self.scratch.plan,
-        )?;
-        self.take_memory()?;
-        Ok(held_by(&self.scratch.plan))
+        }))
     }
 
-    /// Plans a subblock in the place of the one that has its key, and takes all memory for it. The answer is the span that it
-    /// holds back.
+    /// Prepares a subblock in the place of the one that has its key.
     pub(crate) fn prepare_replacement(
         &mut self,
         info: &EntryInfo,
@@ -90,25 +71,81 @@ impl Engine {
         requires whole { AreWhole self.old.state.edits.items }
         ensures { Prepares (λ s. after_edit s (replace (subblock_in info.now meta.now pixels.now tail.now))) self.old self.new result }
     {
-        check_pieces(meta, pixels, tail)?;
-        let Some(i) = tile_with(&self.state.index, &info.dims) else {
-            return Err(EditError::NoKey);
-        };
-        self.scratch.region.reset();
-        self.scratch.plan.clear();
-        plan_replace_at(
-            self.scratch.alloc,
-            &self.state.index,
-            &self.state.map,
-            i,
-            info,
-            meta,
-            pixels,
-            tail,
-            &mut self.scratch.region,
-            &mut self.scratch.plan,
-        )?;
-        self.take_memory()?;
-        Ok(held_by(&self.scratch.plan))
+        check_subblock(meta, pixels, tail)?;
+        let place = check_known(tile_with(&self.state.index, &info.dims))?;
+        self.prepare(Task::Replace(
+            place,
+            Contents {
+                info,
+                meta,
+                pixels,
+                tail,
+            },
+        ))
+    }
+
+    /// Prepares the removal of a subblock.
+    pub(crate) fn prepare_removal(&mut self, dims: &Dims) -> Result<Option<Span>, EditError>
+        requires own_map { HasItsMap self.old.state }
+        requires whole { AreWhole self.old.state.edits.items }
+        ensures { Prepares (λ s. after_edit s (remove (dims_of dims.now))) self.old self.new result }
+    {
+        let place = check_known(tile_with(&self.state.index, dims))?;
+        self.prepare(Task::Remove(place))
+    }
+
+    /// Prepares a new attachment.
+    pub(crate) fn prepare_attachment(
+        &mut self,
+        info: &AttInfo,
+        bytes: &[u8],
+    ) -> Result<Option<Span>, EditError>
+        requires own_map { HasItsMap self.old.state }
+        requires whole { AreWhole self.old.state.edits.items }
+        ensures { Prepares (λ s. after_edit s (attach (attachment_in info.now bytes.now))) self.old self.new result }
+    {
+        check_attachment(bytes)?;
+        let there = attachment_with(&self.state.index, key_of(info));
+        check_new(there, self.state.index.attachments.len(), MOST_ATTACHMENTS)?;
+        self.prepare(Task::Attach(info, bytes))
+    }
+
+    /// Prepares an attachment in the place of the one that has its name.
+    pub(crate) fn prepare_reattachment(
+        &mut self,
+        info: &AttInfo,
+        bytes: &[u8],
+    ) -> Result<Option<Span>, EditError>
+        requires own_map { HasItsMap self.old.state }
+        requires whole { AreWhole self.old.state.edits.items }
+        ensures { Prepares (λ s. after_edit s (reattach (attachment_in info.now bytes.now))) self.old self.new result }
+    {
+        check_attachment(bytes)?;
+        let place = check_known(attachment_with(&self.state.index, key_of(info)))?;
+        self.prepare(Task::Reattach(place, info, bytes))
+    }
+
+    /// Prepares the removal of an attachment.
+    pub(crate) fn prepare_detachment(&mut self, name: &[u8]) -> Result<Option<Span>, EditError>
+        requires own_map { HasItsMap self.old.state }
+        requires whole { AreWhole self.old.state.edits.items }
+        ensures { Prepares (λ s. after_edit s (detach name.now)) self.old self.new result }
+    {
+        let place = check_known(attachment_with(&self.state.index, name))?;
+        self.prepare(Task::Detach(place))
+    }
+
+    /// Prepares new metadata.
+    pub(crate) fn prepare_metadata(
+        &mut self,
+        xml: &[u8],
+        tail: &[u8],
+    ) -> Result<Option<Span>, EditError>
+        requires own_map { HasItsMap self.old.state }
+        requires whole { AreWhole self.old.state.edits.items }
+        ensures { Prepares (λ s. after_edit s (set_meta (metadata_in xml.now tail.now))) self.old self.new result }
+    {
+        check_metadata(xml, tail)?;
+        self.prepare(Task::SetMeta(xml, tail))
     }
 }

@@ -1,4 +1,4 @@
-use Rattle.std.proofs.Common.{◌≡◌, ℕ, ◌<◌, false, Some, length, refl, ap}
+use Rattle.std.proofs.Common.{length, refl, ap}
 use Rattle.std.proofs.lemmas.Bool.{lt-leb}
 use Rattle.czi_machine.specs.Edit.{too_long}
 use Rattle.czi_format.specs.FirstFault.{unless}

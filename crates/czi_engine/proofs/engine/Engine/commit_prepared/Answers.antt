@@ -1,7 +1,7 @@
 use Rattle.std.proofs.Common.{◌∙◌, ℕ, List, sym, subst}
 use Rattle.czi_commit.specs.Made.{Fits, step_of}
 use Rattle.czi_engine.proofs.Fitting.{fits_step, image_guid, image_length}
-use Rattle.czi_engine.proofs.engine.Engine.carry.Goals as goal
+use Rattle.czi_engine.proofs.engine.Engine.commit_prepared.Goals as goal
 
 pub carry_out-requires-clause-ready : goal.carry_out-requires-clause-ready
 carry_out-requires-clause-ready g c =

@@ -7,7 +7,7 @@ use Rattle.czi_num.specs.Span.{span_of}
 use Rattle.czi_plan.specs.Plan.{freed_of, used_of}
 use Rattle.czi_plan.proofs.Brief.{few_extents}
 use Rattle.czi_engine.proofs.Fitting.{map_rises}
-use Rattle.czi_engine.proofs.engine.Engine.accept.Goals as goal
+use Rattle.czi_engine.proofs.engine.Engine.take_over.Goals as goal
 
 pub update_map-requires-clause-rise : goal.update_map-requires-clause-rise
 update_map-requires-clause-rise c = map_rises c.args.self.now.state c.requires.own_map

@@ -1,0 +1,18 @@
+use Rattle.std.proofs.Common.{◌∙◌}
+use Rattle.czi_machine.specs.Edit.{set_meta}
+use Rattle.czi_machine.specs.Machine.{after_edit}
+use Rattle.czi_plan.specs.Attaching.{metadata_in}
+use Rattle.czi_engine.proofs.Same.{same_stands}
+use Rattle.czi_engine.proofs.engine.Engine.set_meta.Goals as goal
+
+pub edit-requires-clause-stands : goal.edit-requires-clause-stands
+edit-requires-clause-stands g c = same_stands c.args.self.now.state c.prepare_metadata-prepared.new.self.state c.prepare_metadata-prepared.ensures.same (g.R.Rig.state c.args.rig.now) c.requires.stands
+
+pub edit-requires-clause-up : goal.edit-requires-clause-up
+edit-requires-clause-up g c = c.prepare_metadata-prepared.ensures.same.down ∙ c.requires.up
+
+pub edit-requires-clause-prepared : goal.edit-requires-clause-prepared
+edit-requires-clause-prepared g c = (λ s. after_edit s (set_meta (metadata_in c.args.xml.now c.args.tail.now)), c.args.self.now, c.prepare_metadata-prepared.ensures)
+
+pub returns : goal.returns
+returns g c = c.edit.ensures (λ s. after_edit s (set_meta (metadata_in c.args.xml.now c.args.tail.now))) c.args.self.now c.prepare_metadata-prepared.ensures
