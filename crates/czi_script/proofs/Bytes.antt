@@ -7,7 +7,7 @@ use Rattle.czi_script.specs.Script.{HasNo, len_before}
 len_here : (b x : ℕ) (xs : List ℕ) → (x == b) ≡ true → len_before b (x ∷ xs) ≡ 0
 len_here b x xs t = rw t
 
-len_on : (b x : ℕ) (xs : List ℕ) → (x == b) ≡ false → len_before b (x ∷ xs) ≡ 1 + len_before b xs
+pub len_on : (b x : ℕ) (xs : List ℕ) → (x == b) ≡ false → len_before b (x ∷ xs) ≡ 1 + len_before b xs
 len_on b x xs t = rw t
 
 -- the first byte b stands behind n others
@@ -162,3 +162,7 @@ seen_front b seen m bytes le inside free =
 
 pub seen_len : (b seen m n : ℕ) (bytes : List ℕ) → n ≡ len_before b (take (length (take m bytes) - seen) (drop seen (take m bytes))) → seen ≤ m → seen ≤ length bytes → HasNo b (take seen bytes) → seen + n ≡ len_before b (take m bytes)
 seen_len b seen m n bytes e le inside free = ap (λ k. seen + k) (e ∙ ap (len_before b) (take_rest (take m bytes) seen)) ∙ seen_front b seen m bytes le inside free
+
+pub no_bytes : (l : List ℕ) → length l ≡ 0 → l ≡ []
+no_bytes [] e = refl
+no_bytes (x ∷ l) e = absurd (omega (arith, e))

@@ -6,9 +6,10 @@ use Rattle.std.proofs.lemmas.List.{take-append-le}
 use Rattle.std.proofs.Math.Seq.{take-append-add, take-append_seam, drop-append_seam}
 use Rattle.czi_script.specs.declared.kind.Kind.{Kind}
 use Rattle.czi_script.specs.declared.kind.Kind.TheVariants.{Cut, Long, Word, Later, Field, Value, Tail}
-use Rattle.czi_script.specs.Script.{Command, Head, Alone, Tile, HasNo, IsHead, Spells, FirstLine, len_before, IsWrong, IsFault, IsUnfinished, BeginsPayload, NoneBegins, Shows, payload_len, close, rest_len, command_with}
+use Rattle.czi_script.specs.Script.{Command, Head, Alone, Brings, HasNo, IsHead, Spells, FirstLine, len_before, IsWrong, IsFault, IsUnfinished, BeginsPayload, NoneBegins, Shows, payload_len, close, rest_len, command_with}
+use Rattle.czi_script.proofs.Tests.{less_or}
 use Rattle.czi_script.proofs.Bytes.{SameParts, parted_once, held_in, free_append, free_front, all_free, FirstAt, first_at}
-use Rattle.czi_script.proofs.Grammar.{less_or, one_head, not_both, kind_is, LineIs, line_is}
+use Rattle.czi_script.proofs.Grammar.{one_head, not_both, kind_is, LineIs, line_is}
 
 pub no_cons : (b : ℕ) (bytes : List ℕ) → b ∷ bytes ≡ [] → ⊥
 no_cons b bytes e = cc
@@ -277,19 +278,19 @@ line_parts line front more bytes rest e f = e ∙ ap (λ l. line ++ 10 ∷ l) f 
 closed_begun : (h : Head) (line bytes : List ℕ) → (f : FirstLine line bytes) → IsHead h line → (payload more : List ℕ) → length payload ≡ payload_len h → f.more ≡ payload ++ more → rest_len h ≤ length f.more → Begun bytes
 closed_begun (Alone c) line bytes f is payload more sized behind whole =
     inl (_, _, more, line_parts line (payload ++ []) more bytes f.more f.whole (behind ∙ ap (λ l. l ++ more) (sym (append-nil payload))), spells_so (Alone c) line payload is f.short f.free sized)
-closed_begun (Tile verb info meta pixels tail) line bytes f is payload [] sized behind whole = absurd (
+closed_begun (Brings p) line bytes f is payload [] sized behind whole = absurd (
     let n : length f.more ≡ length (payload ++ []) = ap length behind in
     let m : length (payload ++ []) ≡ length payload = ap length (append-nil payload) in
     omega (arith, n, m, sized, whole))
-closed_begun (Tile verb info meta pixels tail) line bytes f is payload (b ∷ more) sized behind whole = elim (cases_Bool (b == 10)) [
+closed_begun (Brings p) line bytes f is payload (b ∷ more) sized behind whole = elim (cases_Bool (b == 10)) [
   | inl t ↦ inl (
     _,
     _,
     more,
     line_parts line (payload ++ 10 ∷ []) more bytes f.more f.whole (behind ∙ ap (λ x. payload ++ x ∷ more) (eqb-true b 10 t) ∙ sym (append_assoc payload (10 ∷ []) more)),
-    spells_so (Tile verb info meta pixels tail) line payload is f.short f.free sized,
+    spells_so (Brings p) line payload is f.short f.free sized,
   )
-  | inr t ↦ inr (Tail, record { line = line; head = Tile verb info meta pixels tail; payload = payload; byte = b; more = more; first = f; is_head = is; sized = sized; closed = refl; behind = behind; other = eqb-false b 10 t })
+  | inr t ↦ inr (Tail, record { line = line; head = Brings p; payload = payload; byte = b; more = more; first = f; is_head = is; sized = sized; closed = refl; behind = behind; other = eqb-false b 10 t })
 ]
 
 -- the first line of the bytes says something, or is wrong
@@ -386,7 +387,7 @@ tail_on bytes p = by p.head refl
   where
     by : (h : Head) → p.head ≡ h → (more : List ℕ) × IsFault Tail (bytes ++ more)
     by (Alone c) e = absurd (let n : rest_len p.head ≡ 0 = ap rest_len e in omega (arith, n, p.less))
-    by (Tile verb info meta pixels tail) e = (
+    by (Brings brought) e = (
       letters k ++ 11 ∷ [],
       record {
         line = p.line;

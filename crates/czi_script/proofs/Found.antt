@@ -5,7 +5,7 @@ use Rattle.std.proofs.Math.Seq.{take-append-add}
 use Rattle.czi_script.specs.declared.kind.Kind.{Kind}
 use Rattle.czi_script.specs.declared.kind.Kind.TheVariants.{Cut, Long, Word, Later, Field, Value, Tail}
 use Rattle.czi_script.specs.Script.{Command, IsFault, Found, Next, Ended, Wrong, Beyond, Shows, Finds}
-use Rattle.czi_script.proofs.Grammar.{less_or}
+use Rattle.czi_script.proofs.Tests.{less_or}
 use Rattle.czi_script.proofs.Faults.{no_cons, SameSpelling, spelled_once, spelled_some, fault_some, fault_some_bytes, one_kind, fault_stuck, fault_stays, not_always_cut, Begun, begun, shown_fault}
 
 -- the bytes before the limit are no fault that shows

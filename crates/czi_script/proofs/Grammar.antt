@@ -1,11 +1,13 @@
 -- Lines: each says one thing, or is wrong in one way.
-use Rattle.std.proofs.Common.{◌≡◌, ℕ, suc, ◌+◌, ◌<◌, ◌≤◌, ℤ, pos, List, [], ◌∷◌, length, Bool, true, false, ◌||◌, ◌⊎◌, Option, Some, None, Result, Ok, Err, refl, ap, sym, ◌∙◌, subst, arith, inl, inr, append-nil, if◌then◌else◌}
-use Rattle.std.specs.Prelude.{codes, bytes_eq, nat_lt, is_some, get_or, replicate, ◌^◌}
+use Rattle.std.proofs.Common.{◌≡◌, ℕ, suc, ◌+◌, ◌<◌, ℤ, pos, List, [], ◌∷◌, length, Bool, true, false, ◌⊎◌, Option, Some, None, Result, Ok, Err, refl, ap, sym, ◌∙◌, subst, arith, inl, inr, append-nil, if◌then◌else◌}
+use Rattle.std.specs.Prelude.{codes, bytes_eq, is_some, get_or, option_map, replicate, ◌^◌}
 use Rattle.std.specs.Str.Parse.{digits_value}
 use Rattle.std.proofs.lemmas.Bool.{cases_Bool}
-use Rattle.std.proofs.lemmas.Bool.Decides.{nat_tests}
+use Rattle.std.proofs.lemmas.Option.{none-some}
 use Rattle.czi_format.specs.Partial.{◌>>=◌}
-use Rattle.czi_format.specs.Entry.{Dim, EntryInfo}
+use Rattle.uuid.specs.Text.{parsed}
+use Rattle.czi_format.specs.Bytes.{stored_order}
+use Rattle.czi_format.specs.Entry.{AttInfo, Dim, EntryInfo}
 use Rattle.czi_doc.specs.DimText.{IsDimText, IsNatural}
 use Rattle.czi_doc.specs.Reading.{Read, items_at, number_at}
 use Rattle.czi_doc.proofs.Spelled.{found}
@@ -13,14 +15,11 @@ use Rattle.czi_doc.proofs.ReadAgain.{only, only_fault, number_again}
 use Rattle.czi_doc.proofs.Numbers.{natural_or, number_or, same_natural}
 use Rattle.czi_script.specs.declared.kind.Kind.{Kind}
 use Rattle.czi_script.specs.declared.kind.Kind.TheVariants.{Cut, Long, Word, Later, Field, Value, Tail}
-use Rattle.czi_script.specs.Script.{Add, Replace, Remove, Listing, Info, Map, Check, Past, Verb, Adds, Replaces, Head, Alone, Tile, word, lines, later_words, is_among, fields_for, values_at, behind_word, values_of, IsSigned, IsTile, tile_word, head_word, AreValues, IsHead, IsWrong, is_built, has_fields}
-use Rattle.czi_script.proofs.Words.{no_truth, each_line, built_not_later}
-
-pub less_or : (a b : ℕ) → (a < b) ⊎ (b ≤ a)
-less_or a b = elim (cases_Bool (nat_lt a b)) [
-  | inl t ↦ inl (grind (arith, nat_tests))
-  | inr t ↦ inr (grind (arith, nat_tests))
-]
+use Rattle.czi_script.specs.BytesText.{IsBytesText, IsPaddedText, padded}
+use Rattle.czi_script.specs.Script.{Verb, Adds, Replaces, Removes, Detaches, Lists, Tells, Maps, Checks, Tile, Attachment, Metadata, Head, Alone, Brings, word, lines, later_words, is_among, fields_for, values_at, behind_word, values_of, IsSigned, IsSize, TileValues, AttachmentValues, attachment_word, tile_word, head_word, AreValues, IsHead, IsWrong, is_built, has_fields}
+use Rattle.czi_script.proofs.Tests.{less_or, no_truth}
+use Rattle.czi_script.proofs.Words.{each_line, built_not_later}
+use Rattle.czi_script.proofs.Spelling.{the_bytes, bytes_is, field_is, bytes_or, field_or}
 
 -- the values, by their texts
 
@@ -42,43 +41,79 @@ abbrev nth : ℕ → List (List ℕ) → List ℕ
 nth n values = get_or values n []
 
 abbrev tile_at : Verb → List (List ℕ) → Head
-tile_at verb values = Tile verb (record {
+tile_at verb values = Brings (Tile verb (record {
   pixel = the_number (number_at (nth 0 values));
   compression = the_number (number_at (nth 1 values));
   pyramid = digits_value 10 (nth 2 values);
   spare = replicate 5 0;
   dims = the_dims (items_at 40 (nth 3 values));
-}) (digits_value 10 (nth 4 values)) (digits_value 10 (nth 5 values)) (digits_value 10 (nth 6 values))
+}) (digits_value 10 (nth 4 values)) (digits_value 10 (nth 5 values)) (digits_value 10 (nth 6 values)))
 
-tile_is : (verb : Verb) (info : EntryInfo) (meta pixels tail : ℕ) (values : List (List ℕ)) → IsTile info meta pixels tail values → tile_at verb values ≡ Tile verb info meta pixels tail
+tile_is : (verb : Verb) (info : EntryInfo) (meta pixels tail : ℕ) (values : List (List ℕ)) → TileValues info meta pixels tail values → tile_at verb values ≡ Brings (Tile verb info meta pixels tail)
 tile_is verb info meta pixels tail values r = ap (tile_at verb) r.texts ∙ parts (number_is r.pixel_text info.pixel r.is_pixel) (number_is r.comp_text info.compression r.is_comp) r.is_pyramid.0.value (sym r.spare) (dims_is r.dims_text info.dims r.is_dims) r.is_meta.0.value r.is_data.0.value r.is_att.0.value
   where
     parts : {a b : ℤ} {c : ℕ} {d : List ℕ} {e : List Dim} {f g h : ℕ} → a ≡ info.pixel → b ≡ info.compression → c ≡ info.pyramid → d ≡ info.spare → e ≡ info.dims → f ≡ meta → g ≡ pixels → h ≡ tail
-        → Tile verb (record { pixel = a; compression = b; pyramid = c; spare = d; dims = e }) f g h ≡ Tile verb info meta pixels tail
+        → Brings (Tile verb (record { pixel = a; compression = b; pyramid = c; spare = d; dims = e }) f g h) ≡ Brings (Tile verb info meta pixels tail)
     parts p q r s t u v w = rw (p, q, r, s, t, u, v, w)
+
+-- the GUID of a text, or none of its bytes
+guid_of : Option (List ℕ) → List ℕ
+guid_of None = []
+guid_of (Some guid) = guid
+
+pub the_guid : List ℕ → List ℕ
+the_guid text = guid_of (option_map stored_order (parsed text))
+
+guid_is : (text guid : List ℕ) → option_map stored_order (parsed text) ≡ Some guid → the_guid text ≡ guid
+unfolding the_guid guid_of
+guid_is text guid e = ap guid_of e
+
+abbrev attachment_at : Verb → List (List ℕ) → Head
+attachment_at verb values = Brings (Attachment verb (record { guid = the_guid (nth 0 values); kind = padded 8 (the_bytes (nth 1 values)); name = padded 80 (the_bytes (nth 2 values)) }) (digits_value 10 (nth 3 values)))
+
+attachment_is : (verb : Verb) (info : AttInfo) (len : ℕ) (values : List (List ℕ)) → AttachmentValues info len values → attachment_at verb values ≡ Brings (Attachment verb info len)
+attachment_is verb info len values r = ap (attachment_at verb) r.texts ∙ parts (guid_is r.guid_text info.guid r.is_guid) (field_is 8 r.type_text info.kind r.is_type) (field_is 80 r.name_text info.name r.is_name) r.is_data.0.value
+  where
+    parts : {a b c : List ℕ} {n : ℕ} → a ≡ info.guid → b ≡ info.kind → c ≡ info.name → n ≡ len → Brings (Attachment verb (record { guid = a; kind = b; name = c }) n) ≡ Brings (Attachment verb info len)
+    parts p q r s = rw (p, q, r, s)
 
 -- what a line may say, by its word and its values
 abbrev head_at : List ℕ → List (List ℕ) → Head
 head_at w values =
     if bytes_eq w (codes "add") then tile_at Adds values
     else if bytes_eq w (codes "replace") then tile_at Replaces values
-    else if bytes_eq w (codes "remove") then Alone (Remove (the_dims (items_at 40 (nth 0 values))))
-    else if bytes_eq w (codes "list") then Alone Listing
-    else if bytes_eq w (codes "info") then Alone Info
-    else if bytes_eq w (codes "map") then Alone Map
-    else Alone Check
+    else if bytes_eq w (codes "remove") then Alone (Removes (the_dims (items_at 40 (nth 0 values))))
+    else if bytes_eq w (codes "attach") then attachment_at Adds values
+    else if bytes_eq w (codes "reattach") then attachment_at Replaces values
+    else if bytes_eq w (codes "detach") then Alone (Detaches (the_bytes (nth 0 values)))
+    else if bytes_eq w (codes "meta") then Brings (Metadata (digits_value 10 (nth 0 values)) (digits_value 10 (nth 1 values)))
+    else if bytes_eq w (codes "list") then Alone Lists
+    else if bytes_eq w (codes "info") then Alone Tells
+    else if bytes_eq w (codes "map") then Alone Maps
+    else Alone Checks
 
-head_is : (h : Head) (values : List (List ℕ)) → AreValues h values → head_at (head_word h) values ≡ h
-head_is (Tile Adds info meta pixels tail) values are = tile_is Adds info meta pixels tail values are
-head_is (Tile Replaces info meta pixels tail) values are = tile_is Replaces info meta pixels tail values are
-head_is (Alone (Remove dims)) values are = ap (λ vs. head_at (codes "remove") vs) are.1 ∙ ap (λ (ds : List Dim). Alone (Remove ds)) (dims_is are.0 dims are.2)
-head_is (Alone Listing) values are = refl
-head_is (Alone Info) values are = refl
-head_is (Alone Map) values are = refl
-head_is (Alone Check) values are = refl
-head_is (Alone (Add info meta pixels tail)) values are = absurd are
-head_is (Alone (Replace info meta pixels tail)) values are = absurd are
-head_is (Alone (Past len limit)) values are = absurd are
+metadata_is : (a b : List ℕ) (xml tail : ℕ) → IsSize a xml → IsSize b tail → Brings (Metadata (digits_value 10 a) (digits_value 10 b)) ≡ Brings (Metadata xml tail)
+metadata_is a b xml tail p q = both p.0.value q.0.value
+  where
+    both : {m n : ℕ} → m ≡ xml → n ≡ tail → Brings (Metadata m n) ≡ Brings (Metadata xml tail)
+    both e f = rw (e, f)
+
+pub head_is : (h : Head) (values : List (List ℕ)) → AreValues h values → head_at (head_word h) values ≡ h
+head_is (Brings (Tile Adds info meta pixels tail)) values are = tile_is Adds info meta pixels tail values are
+head_is (Brings (Tile Replaces info meta pixels tail)) values are = tile_is Replaces info meta pixels tail values are
+head_is (Alone (Removes dims)) values are = ap (λ vs. head_at (codes "remove") vs) are.1 ∙ ap (λ (ds : List Dim). Alone (Removes ds)) (dims_is are.0 dims are.2)
+head_is (Brings (Attachment Adds info len)) values are = attachment_is Adds info len values are
+head_is (Brings (Attachment Replaces info len)) values are = attachment_is Replaces info len values are
+head_is (Alone (Detaches name)) values are = ap (λ vs. head_at (codes "detach") vs) are.1 ∙ ap (λ (n : List ℕ). Alone (Detaches n)) (bytes_is 80 are.0 name are.2)
+head_is (Brings (Metadata xml tail)) values are = ap (λ vs. head_at (codes "meta") vs) are.2 ∙ metadata_is are.0 are.1 xml tail are.3 are.4
+head_is (Alone Lists) values are = refl
+head_is (Alone Tells) values are = refl
+head_is (Alone Maps) values are = refl
+head_is (Alone Checks) values are = refl
+
+-- what a word and values say is what they may say
+at_word : (w : List ℕ) (h : Head) (values : List (List ℕ)) → head_word h ≡ w → AreValues h values → AreValues (head_at w values) values
+at_word w h values named are = subst (λ (k : Head). AreValues k values) (sym (head_is h values are) ∙ ap (λ x. head_at x values) named) are
 
 pub one_head : (h k : Head) (line : List ℕ) → IsHead h line → IsHead k line → h ≡ k
 one_head h k line p q =
@@ -127,67 +162,42 @@ kind_is Field line w = sym (kind_here _ _ _ false true false (built_not_later (w
 kind_is Value line w = let built = fields_built line w.0 in sym (kind_here _ _ _ false true true (built_not_later (word line) built) built w.0)
 kind_is Tail line w = absurd w
 
--- which words are whose
-
-abbrev is_tile : List ℕ → Bool
-is_tile w = bytes_eq w (codes "add") || bytes_eq w (codes "replace")
-
-verb_tile : (verb : Verb) → is_tile (tile_word verb) ≡ true
-verb_tile Adds = refl
-verb_tile Replaces = refl
+-- what stands in the values of a line, by its word
 
 abbrev SomeTile : List (List ℕ) → Type 0
-SomeTile values = (info : EntryInfo) × (meta : ℕ) × (pixels : ℕ) × (tail : ℕ) × IsTile info meta pixels tail values
-
-not_tile : (w : List ℕ) (verb : Verb) → is_tile w ≡ false → w ≡ tile_word verb → ⊥
-not_tile w verb other e = no_truth (sym (ap is_tile e ∙ verb_tile verb) ∙ other)
+SomeTile values = (info : EntryInfo) × (meta : ℕ) × (pixels : ℕ) × (tail : ℕ) × TileValues info meta pixels tail values
 
 pub only_tile : (verb : Verb) (h : Head) (values : List (List ℕ)) → head_word h ≡ tile_word verb → AreValues h values → SomeTile values
-only_tile verb (Tile v info meta pixels tail) values named are = (info, meta, pixels, tail, are)
-only_tile verb (Alone (Remove dims)) values named are = absurd (not_tile _ verb refl named)
-only_tile verb (Alone Listing) values named are = absurd (not_tile _ verb refl named)
-only_tile verb (Alone Info) values named are = absurd (not_tile _ verb refl named)
-only_tile verb (Alone Map) values named are = absurd (not_tile _ verb refl named)
-only_tile verb (Alone Check) values named are = absurd (not_tile _ verb refl named)
-only_tile verb (Alone (Add info meta pixels tail)) values named are = absurd are
-only_tile verb (Alone (Replace info meta pixels tail)) values named are = absurd are
-only_tile verb (Alone (Past len limit)) values named are = absurd are
-
-apart : (a b : List ℕ) → bytes_eq a b ≡ false → bytes_eq b b ≡ true → a ≡ b → ⊥
-apart a b other same e = no_truth (sym same ∙ ap (λ x. bytes_eq x b) (sym e) ∙ other)
+only_tile Adds h values named are = (_, _, _, _, at_word (codes "add") h values named are)
+only_tile Replaces h values named are = (_, _, _, _, at_word (codes "replace") h values named are)
 
 abbrev SomeDims : List (List ℕ) → Type 0
 SomeDims values = (dims : List Dim) × (text : List ℕ) × (values ≡ text ∷ []) × IsDimText text dims
 
 pub only_remove : (h : Head) (values : List (List ℕ)) → head_word h ≡ codes "remove" → AreValues h values → SomeDims values
-only_remove (Tile Adds info meta pixels tail) values named are = absurd (apart _ (codes "remove") refl refl named)
-only_remove (Tile Replaces info meta pixels tail) values named are = absurd (apart _ (codes "remove") refl refl named)
-only_remove (Alone (Remove dims)) values named are = (dims, are.0, are.1, are.2)
-only_remove (Alone Listing) values named are = absurd (apart _ (codes "remove") refl refl named)
-only_remove (Alone Info) values named are = absurd (apart _ (codes "remove") refl refl named)
-only_remove (Alone Map) values named are = absurd (apart _ (codes "remove") refl refl named)
-only_remove (Alone Check) values named are = absurd (apart _ (codes "remove") refl refl named)
-only_remove (Alone (Add info meta pixels tail)) values named are = absurd are
-only_remove (Alone (Replace info meta pixels tail)) values named are = absurd are
-only_remove (Alone (Past len limit)) values named are = absurd are
+only_remove h values named are = let r = at_word (codes "remove") h values named are in (_, r.0, r.1, r.2)
 
-abbrev is_bare : List ℕ → Bool
-is_bare w = is_among (codes "list" ∷ codes "info" ∷ codes "map" ∷ codes "check" ∷ []) w
+abbrev SomeAttachment : List (List ℕ) → Type 0
+SomeAttachment values = (info : AttInfo) × (len : ℕ) × AttachmentValues info len values
+
+pub only_attachment : (verb : Verb) (h : Head) (values : List (List ℕ)) → head_word h ≡ attachment_word verb → AreValues h values → SomeAttachment values
+only_attachment Adds h values named are = (_, _, at_word (codes "attach") h values named are)
+only_attachment Replaces h values named are = (_, _, at_word (codes "reattach") h values named are)
+
+abbrev SomeName : List (List ℕ) → Type 0
+SomeName values = (name : List ℕ) × (text : List ℕ) × (values ≡ text ∷ []) × IsBytesText 80 text name
+
+pub only_detach : (h : Head) (values : List (List ℕ)) → head_word h ≡ codes "detach" → AreValues h values → SomeName values
+only_detach h values named are = let r = at_word (codes "detach") h values named are in (_, r.0, r.1, r.2)
+
+abbrev SomeSizes : List (List ℕ) → Type 0
+SomeSizes values = (xml : ℕ) × (tail : ℕ) × (a : List ℕ) × (b : List ℕ) × (values ≡ a ∷ b ∷ []) × IsSize a xml × IsSize b tail
+
+pub only_meta : (h : Head) (values : List (List ℕ)) → head_word h ≡ codes "meta" → AreValues h values → SomeSizes values
+only_meta h values named are = let r = at_word (codes "meta") h values named are in (_, _, r.0, r.1, r.2, r.3, r.4)
 
 some_values : (v : List ℕ) (values : List (List ℕ)) → v ∷ values ≡ [] → ⊥
 some_values v values e = cc
-
-no_bare : (h : Head) (v : List ℕ) (values : List (List ℕ)) → is_bare (head_word h) ≡ true → AreValues h (v ∷ values) → ⊥
-no_bare (Tile Adds info meta pixels tail) v values bare are = no_truth (sym bare)
-no_bare (Tile Replaces info meta pixels tail) v values bare are = no_truth (sym bare)
-no_bare (Alone (Remove dims)) v values bare are = no_truth (sym bare)
-no_bare (Alone Listing) v values bare are = some_values v values are
-no_bare (Alone Info) v values bare are = some_values v values are
-no_bare (Alone Map) v values bare are = some_values v values are
-no_bare (Alone Check) v values bare are = some_values v values are
-no_bare (Alone (Add info meta pixels tail)) v values bare are = are
-no_bare (Alone (Replace info meta pixels tail)) v values bare are = are
-no_bare (Alone (Past len limit)) v values bare are = are
 
 -- whether values are of their form
 
@@ -276,6 +286,68 @@ seven a b c d e f g = elim (number_or a) [
   ]
 ]
 
+-- the values of an attachment's line, where one isn't of its form
+
+guid_or : (text : List ℕ) → ((guid : List ℕ) × (option_map stored_order (parsed text) ≡ Some guid)) ⊎ ((guid : List ℕ) → option_map stored_order (parsed text) ≡ Some guid → ⊥)
+guid_or text = some_or (option_map stored_order (parsed text))
+  where
+    some_or : (o : Option (List ℕ)) → ((x : List ℕ) × (o ≡ Some x)) ⊎ ((x : List ℕ) → o ≡ Some x → ⊥)
+    some_or None = inr (λ x e. none-some x e)
+    some_or (Some x) = inl (x, refl)
+
+AttachmentOr : List (List ℕ) → Type 0
+AttachmentOr values = SomeAttachment values ⊎ (SomeAttachment values → ⊥)
+
+four : (a b c d : List ℕ) → AttachmentOr (a ∷ b ∷ c ∷ d ∷ [])
+unfolding AttachmentOr
+four a b c d = elim (guid_or a) [
+  | inr none ↦ inr (λ t. let r = t.2 in none t.0.guid (subst (λ x. option_map stored_order (parsed x) ≡ Some t.0.guid) (sym (ap (nth 0) r.texts)) r.is_guid))
+  | inl guid ↦ elim (field_or 8 b) [
+    | inr none ↦ inr (λ t. let r = t.2 in none t.0.kind (subst (λ x. IsPaddedText 8 x t.0.kind) (sym (ap (nth 1) r.texts)) r.is_type))
+    | inl kind ↦ elim (field_or 80 c) [
+      | inr none ↦ inr (λ t. let r = t.2 in none t.0.name (subst (λ x. IsPaddedText 80 x t.0.name) (sym (ap (nth 2) r.texts)) r.is_name))
+      | inl name ↦ elim (below_or (2 ^ 64) d) [
+        | inr none ↦ inr (λ t. let r = t.2 in none t.1 (subst (λ x. IsNatural x t.1) (sym (ap (nth 3) r.texts)) r.is_data.0) r.is_data.1)
+        | inl size ↦ inl (
+          record { guid = guid.0; kind = kind.0; name = name.0 },
+          size.0,
+          record { guid_text = a; type_text = b; name_text = c; data_text = d; texts = refl; is_guid = guid.1; is_type = kind.1; is_name = name.1; is_data = (size.1, size.2) },
+        )
+      ]
+    ]
+  ]
+]
+
+attachment_or : (values : List (List ℕ)) → AttachmentOr values
+unfolding AttachmentOr
+attachment_or [] = inr (λ t. let k : 0 ≡ 4 = ap length t.2.texts in omega (arith, k))
+attachment_or (a ∷ []) = inr (λ t. let k : 1 ≡ 4 = ap length t.2.texts in omega (arith, k))
+attachment_or (a ∷ b ∷ []) = inr (λ t. let k : 2 ≡ 4 = ap length t.2.texts in omega (arith, k))
+attachment_or (a ∷ b ∷ c ∷ []) = inr (λ t. let k : 3 ≡ 4 = ap length t.2.texts in omega (arith, k))
+attachment_or (a ∷ b ∷ c ∷ d ∷ []) = four a b c d
+attachment_or (a ∷ b ∷ c ∷ d ∷ e ∷ values) = inr (λ t. let k : suc (suc (suc (suc (suc (length values))))) ≡ 4 = ap length t.2.texts in omega (arith, k))
+
+-- the two sizes of the metadata's line
+sizes_or : (values : List (List ℕ)) → SomeSizes values ⊎ (SomeSizes values → ⊥)
+sizes_or [] = inr (λ t. some_values t.2 (t.3 ∷ []) (sym t.4))
+sizes_or (a ∷ []) = inr (λ t. let k : 1 ≡ 2 = ap length t.4 in omega (arith, k))
+sizes_or (a ∷ b ∷ []) = elim (below_or (2 ^ 64) a) [
+  | inr none ↦ inr (λ t. none t.0 (subst (λ x. IsNatural x t.0) (sym (ap (nth 0) t.4)) t.5.0) t.5.1)
+  | inl xml ↦ elim (below_or (2 ^ 64) b) [
+    | inr none ↦ inr (λ t. none t.1 (subst (λ x. IsNatural x t.1) (sym (ap (nth 1) t.4)) t.6.0) t.6.1)
+    | inl tail ↦ inl (xml.0, tail.0, a, b, refl, (xml.1, xml.2), (tail.1, tail.2))
+  ]
+]
+sizes_or (a ∷ b ∷ c ∷ values) = inr (λ t. let k : suc (suc (suc (length values))) ≡ 2 = ap length t.4 in omega (arith, k))
+
+name_or : (values : List (List ℕ)) → SomeName values ⊎ (SomeName values → ⊥)
+name_or [] = inr (λ t. some_values t.1 [] (sym t.2))
+name_or (text ∷ []) = elim (bytes_or 80 text) [
+  | inl s ↦ inl (s.0, text, refl, s.1)
+  | inr none ↦ inr (λ t. none t.0 (subst (λ x. IsBytesText 80 x t.0) (sym (ap (nth 0) t.2)) t.3))
+]
+name_or (text ∷ more ∷ values) = inr (λ t. let k : suc (suc (length values)) ≡ 1 = ap length t.2 in omega (arith, k))
+
 other_len : (values : List (List ℕ)) (n : ℕ) → length values ≡ n → (n ≡ 7 → ⊥) → SomeTile values → ⊥
 other_len values n len other t = let k : length values ≡ 7 = ap length t.4.texts in other (omega (arith, k, len))
 
@@ -307,26 +379,66 @@ SaysSo w = (values : List (List ℕ)) → ((h : Head) × (head_word h ≡ w) × 
 
 tile_says : (verb : Verb) → SaysSo (tile_word verb)
 tile_says verb = λ values. elim (tile_or values) [
-  | inl t ↦ inl (Tile verb t.0 t.1 t.2 t.3, refl, t.4)
+  | inl t ↦ inl (Brings (Tile verb t.0 t.1 t.2 t.3), refl, t.4)
   | inr none ↦ inr (λ h named are. none (only_tile verb h values named are))
 ]
 
 remove_says : SaysSo (codes "remove")
 remove_says = λ values. elim (dims_or values) [
-  | inl t ↦ inl (Alone (Remove t.0), refl, (t.1, t.2, t.3))
+  | inl t ↦ inl (Alone (Removes t.0), refl, (t.1, t.2, t.3))
   | inr none ↦ inr (λ h named are. none (only_remove h values named are))
 ]
 
-bare_says : (w : List ℕ) (h : Head) → head_word h ≡ w → is_bare w ≡ true → AreValues h [] → SaysSo w
-bare_says w h named bare are [] = inl (h, named, are)
-bare_says w h named bare are (v ∷ values) = inr (λ k other has. no_bare k v values (ap is_bare other ∙ bare) has)
+attachment_says : (verb : Verb) → SaysSo (attachment_word verb)
+unfolding AttachmentOr
+attachment_says verb = λ values. elim (attachment_or values) [
+  | inl t ↦ inl (Brings (Attachment verb t.0 t.1), refl, t.2)
+  | inr none ↦ inr (λ h named are. none (only_attachment verb h values named are))
+]
+
+detach_says : SaysSo (codes "detach")
+detach_says = λ values. elim (name_or values) [
+  | inl t ↦ inl (Alone (Detaches t.0), refl, (t.1, t.2, t.3))
+  | inr none ↦ inr (λ h named are. none (only_detach h values named are))
+]
+
+meta_says : SaysSo (codes "meta")
+meta_says = λ values. elim (sizes_or values) [
+  | inl t ↦ inl (Brings (Metadata t.0 t.1), refl, (t.2, t.3, t.4, t.5, t.6))
+  | inr none ↦ inr (λ h named are. none (only_meta h values named are))
+]
+
+-- a line without fields
+bare_says : (w : List ℕ) (h : Head) → head_word h ≡ w → AreValues h [] → ((v : List ℕ) (values : List (List ℕ)) → AreValues (head_at w (v ∷ values)) (v ∷ values) → ⊥) → SaysSo w
+bare_says w h named are other [] = inl (h, named, are)
+bare_says w h named are other (v ∷ values) = inr (λ k named has. other v values (at_word w k (v ∷ values) named has))
 
 abbrev pub LineIs : List ℕ → Type 0
 LineIs line = ((h : Head) × IsHead h line) ⊎ ((kind : Kind) × IsWrong kind line)
 
 says_so : (w : List ℕ) → is_some (fields_for lines w) ≡ true → SaysSo w
-says_so w built = each_line SaysSo lines
-    (tile_says Adds, (tile_says Replaces, (remove_says, (bare_says _ (Alone Listing) refl refl refl, (bare_says _ (Alone Info) refl refl refl, (bare_says _ (Alone Map) refl refl refl, (bare_says _ (Alone Check) refl refl refl, tt)))))))
+says_so w built = each_line SaysSo lines (
+  tile_says Adds,
+  (
+    tile_says Replaces,
+    (
+      remove_says,
+      (
+        attachment_says Adds,
+        (
+          attachment_says Replaces,
+          (
+            detach_says,
+            (
+              meta_says,
+              (bare_says _ (Alone Lists) refl refl some_values, (bare_says _ (Alone Tells) refl refl some_values, (bare_says _ (Alone Maps) refl refl some_values, (bare_says _ (Alone Checks) refl refl some_values, tt)))),
+            ),
+          ),
+        ),
+      ),
+    ),
+  ),
+)
     w built
 
 value_is : (line : List ℕ) (o : Option (List (List ℕ))) → values_of line ≡ o → is_some o ≡ true → SaysSo (word line) → LineIs line

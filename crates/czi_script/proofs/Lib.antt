@@ -1,4 +1,7 @@
+mod Tests
+mod Spelling
 mod Bytes
+mod Padding
 mod Windows
 mod Steps
 mod Words

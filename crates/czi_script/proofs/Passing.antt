@@ -7,9 +7,10 @@ use Rattle.std.proofs.lemmas.Option.{same_Some, none-some}
 use Rattle.czi_script.specs.declared.kind.Kind.TheVariants.{Cut}
 use Rattle.czi_script.specs.declared.error.ScriptError.{ScriptError}
 use Rattle.czi_script.specs.declared.error.ScriptError.TheVariants.{Fault, Input as InputFailed, TooLong, Memory}
-use Rattle.czi_script.specs.Reader.{Reader, IsReader, GoesOn, ahead, used, limit, TakesFirst}
+use Rattle.czi_script.specs.Reader.{Reader, IsReader, GoesOn, ahead, used, limit, TakesCounted}
 use Rattle.czi_script.specs.Filled.{Filled}
-use Rattle.czi_script.proofs.Grammar.{less_or}
+use Rattle.czi_script.proofs.Bytes.{no_bytes}
+use Rattle.czi_script.proofs.Tests.{less_or}
 use Rattle.czi_script.specs.Pieces.{AtEnd, Added, TookOn, Fills, FillStops, EndsLine, Passed, PassedPart, Interrupted, TakesSome, EndsTail}
 
 -- what is ahead is what is held, and then what is left
@@ -193,7 +194,7 @@ added_none r held all before after a same none = cut_here r before after 0 same 
 
 -- what was taken of the input, by what was passed
 
-pub takes_passed : (old new : Reader) (before after : Option (List ℕ)) (gone : List ℕ) → IsReader old → IsReader new → Passed old new before after gone → TakesFirst old new before after 0
+pub takes_passed : (old new : Reader) (before after : Option (List ℕ)) (gone : List ℕ) → IsReader old → IsReader new → Passed old new before after gone → TakesCounted old new before after 0
 takes_passed old new before after gone was is p = record {
   later = p.later;
   inside = λ left e. (by left e).0;
@@ -218,7 +219,7 @@ takes_passed old new before after gone was is p = record {
               ),
         )
 
-pub takes_both : (a b c : Reader) (start middle end : Option (List ℕ)) (n : ℕ) → TakesFirst a b start middle 0 → TakesFirst b c middle end n → TakesFirst a c start end n
+pub takes_both : (a b c : Reader) (start middle end : Option (List ℕ)) (n : ℕ) → TakesCounted a b start middle 0 → TakesCounted b c middle end n → TakesCounted a c start end n
 takes_both a b c start middle end n p q = record {
   later = omega (arith, p.later, q.later);
   inside = λ left is.
@@ -231,7 +232,7 @@ takes_both a b c start middle end n p q = record {
       q.rest (drop ((b.taken - a.taken) + 0) left) (p.rest left is) ∙ ap Some (drop-drop ((c.taken - b.taken) + n) ((b.taken - a.taken) + 0) left ∙ ap (λ k. drop k left) e);
 }
 
-pub takes_one_more : (old new : Reader) (before middle after : Option (List ℕ)) → TakesFirst old new before middle 0 → GoesOn middle after → TakesFirst old new before after 1
+pub takes_one_more : (old new : Reader) (before middle after : Option (List ℕ)) → TakesCounted old new before middle 0 → GoesOn middle after → TakesCounted old new before after 1
 takes_one_more old new before middle after t goes = record {
   later = t.later;
   inside = λ left is.
@@ -270,10 +271,6 @@ pub record PieceBegins (now new : Reader) (left : Option (List ℕ)) (size : ℕ
   pub few : length f.bytes ≤ f.size
   pub held : length f.bytes < f.size → new.held ≡ []
   pub sound : IsReader new
-
-no_bytes : (l : List ℕ) → length l ≡ 0 → l ≡ []
-no_bytes [] e = refl
-no_bytes (x ∷ l) e = absurd (omega (arith, e))
 
 pub none_held : (old now : Reader) (h : List ℕ) → old ≡ now → h ≡ old.held → true ≡ (length h == 0) → now.held ≡ []
 none_held old now h same h_is none = ap (λ (r : Reader). r.held) (sym same) ∙ sym h_is ∙ no_bytes h (eqb-true (length h) 0 (sym none))

@@ -4,7 +4,7 @@ use Rattle.std.specs.Prelude.{◌≢◌}
 use Rattle.std.proofs.Math.Seq.{take-append-add, drop-append_seam}
 use Rattle.std.proofs.lemmas.List.{take-append-le}
 use Rattle.czi_script.specs.declared.kind.Kind.{Kind}
-use Rattle.czi_script.specs.declared.kind.Kind.TheVariants.{Cut, Long, Tail}
+use Rattle.czi_script.specs.declared.kind.Kind.TheVariants.{Cut, Long, Word, Later, Field, Value, Tail}
 use Rattle.czi_script.specs.declared.error.ScriptError.{ScriptError}
 use Rattle.czi_script.specs.declared.error.ScriptError.TheVariants.{Fault, Input as InputFailed, TooLong, Memory}
 use Rattle.czi_script.specs.declared.command.Command.{Command as CodeCommand}
@@ -12,7 +12,7 @@ use Rattle.czi_script.specs.declared.head.Head.{Head as CodeHead}
 use Rattle.czi_script.specs.declared.lines.Front.TheVariants.{Line}
 use Rattle.czi_script.specs.Script.{Command, Head, HasNo, IsHead, Spells, FirstLine, IsWrong, IsFault, IsUnfinished, Shows, Finds, Beyond, payload_len, close}
 use Rattle.czi_script.specs.View.{command_of, head_of}
-use Rattle.czi_script.specs.Reader.{Reader, IsReader, Uses, GoesOn, ahead, used, room, limit, FindsError, LeavesError, TakesFirst, lost_by}
+use Rattle.czi_script.specs.Reader.{Reader, IsReader, Uses, GoesOn, ahead, used, room, limit, FindsError, IsUsedBefore, LeavesError, TakesCounted, lost_by}
 use Rattle.czi_script.specs.Pieces.{IsFront, AtEnd, TookOn, Lines, LineFault, LineStops, UsesLine, RefusesLine, Passed, PassedPart, OtherByte, Finished, PayloadStops}
 use Rattle.czi_script.proofs.Faults.{fault_of_wrong, spells_so}
 use Rattle.czi_script.proofs.Passing.{Rest, rest_of, took_ahead, same_used, passed_none, passed_front, passed_both, takes_passed, takes_both, takes_one_more}
@@ -89,12 +89,19 @@ none_unfinished : IsUnfinished []
 none_unfinished = inl (tt, omega arith)
 
 pub leaves_stopped : (old new : Reader) (before after : Option (List ℕ)) (error : ScriptError) → LineStops old new before after error → LeavesError old new before after error
-leaves_stopped old new before after (Fault number kind) f = ([], (passed_none old new before after f.more f.took).uses, none_unfinished)
+leaves_stopped old new before after (Fault number kind) f = (
+  [],
+  (passed_none old new before after f.more f.took).uses,
+  elim f.fault [
+    | inl long ↦ subst (λ k. IsUsedBefore k []) (sym long.1) refl
+    | inr cut ↦ subst (λ k. IsUsedBefore k []) (sym cut.1) none_unfinished
+  ],
+)
 leaves_stopped old new before after InputFailed f = ([], (passed_none old new before after f.more f.took).uses, inl (f.unfinished.free, f.unfinished.short))
 leaves_stopped old new before after TooLong f = ([], f.middle, (passed_none old new before f.middle f.more f.took).uses, inl (f.unfinished.free, f.unfinished.short), f.full, f.goes_on)
 leaves_stopped old new before after Memory f = absurd f
 
-takes_line : (old new : Reader) (before after : Option (List ℕ)) (more : List ℕ) → TookOn old new before after more → TakesFirst old new before after 0
+takes_line : (old new : Reader) (before after : Option (List ℕ)) (more : List ℕ) → TookOn old new before after more → TakesCounted old new before after 0
 takes_line old new before after more t = record {
   later = omega (arith, t.taken);
   inside = λ left is. let x = t.adds.left left is in inside left x.0 x.1;
@@ -110,7 +117,7 @@ takes_line old new before after more t = record {
     rest_is : (left rest : List ℕ) → left ≡ more ++ rest → rest ≡ drop ((new.taken - old.taken) + 0) left
     rest_is left rest e = sym (ap (λ k. drop k left) gone ∙ ap (drop (length more)) e ∙ drop-append_seam more rest)
 
-pub takes_stopped : (old new : Reader) (before after : Option (List ℕ)) (error : ScriptError) → LineStops old new before after error → TakesFirst old new before after (lost_by error)
+pub takes_stopped : (old new : Reader) (before after : Option (List ℕ)) (error : ScriptError) → LineStops old new before after error → TakesCounted old new before after (lost_by error)
 takes_stopped old new before after (Fault number kind) f = takes_line old new before after f.more f.took
 takes_stopped old new before after InputFailed f = takes_line old new before after f.more f.took
 takes_stopped old new before after TooLong f = takes_one_more old new before f.middle after (takes_line old new before f.middle f.more f.took) f.goes_on
@@ -126,17 +133,26 @@ finds_refused old mid new before after len InputFailed bytes sound l f is = tt
 finds_refused old mid new before after len TooLong bytes sound l f is = absurd f
 finds_refused old mid new before after len Memory bytes sound l f is = tt
 
+wrong_unused : (kind : Kind) (line : List ℕ) → IsWrong kind line → IsUsedBefore kind []
+wrong_unused Cut line w = none_unfinished
+wrong_unused Long line w = refl
+wrong_unused Word line w = refl
+wrong_unused Later line w = refl
+wrong_unused Field line w = refl
+wrong_unused Value line w = refl
+wrong_unused Tail line w = none_unfinished
+
 pub leaves_refused : (old mid new : Reader) (before after : Option (List ℕ)) (len : ℕ) (error : ScriptError) → Lines old mid before after (Some len) → RefusesLine mid new len error → LeavesError old new before after error
-leaves_refused old mid new before after len (Fault number kind) l f = ([], subst (λ (r : Reader). Uses old r before after []) (sym f.0) (passed_none old mid before after l.more l.took).uses, none_unfinished)
+leaves_refused old mid new before after len (Fault number kind) l f = ([], subst (λ (r : Reader). Uses old r before after []) (sym f.0) (passed_none old mid before after l.more l.took).uses, wrong_unused kind (take len mid.held) f.2)
 leaves_refused old mid new before after len InputFailed l f = absurd f
 leaves_refused old mid new before after len TooLong l f = absurd f
 leaves_refused old mid new before after len Memory l f = ([], subst (λ (r : Reader). Uses old r before after []) (sym f) (passed_none old mid before after l.more l.took).uses, none_unfinished)
 
-pub takes_refused : (old mid new : Reader) (before after : Option (List ℕ)) (len : ℕ) (error : ScriptError) → Lines old mid before after (Some len) → RefusesLine mid new len error → TakesFirst old new before after (lost_by error)
-takes_refused old mid new before after len (Fault number kind) l f = subst (λ (r : Reader). TakesFirst old r before after 0) (sym f.0) (takes_line old mid before after l.more l.took)
+pub takes_refused : (old mid new : Reader) (before after : Option (List ℕ)) (len : ℕ) (error : ScriptError) → Lines old mid before after (Some len) → RefusesLine mid new len error → TakesCounted old new before after (lost_by error)
+takes_refused old mid new before after len (Fault number kind) l f = subst (λ (r : Reader). TakesCounted old r before after 0) (sym f.0) (takes_line old mid before after l.more l.took)
 takes_refused old mid new before after len InputFailed l f = absurd f
 takes_refused old mid new before after len TooLong l f = absurd f
-takes_refused old mid new before after len Memory l f = subst (λ (r : Reader). TakesFirst old r before after 0) (sym f) (takes_line old mid before after l.more l.took)
+takes_refused old mid new before after len Memory l f = subst (λ (r : Reader). TakesCounted old r before after 0) (sym f) (takes_line old mid before after l.more l.took)
 
 -- a whole line is in front and is used
 
@@ -145,7 +161,7 @@ pub record AtPayload (old now : Reader) (before mid : Option (List ℕ)) (line :
   pub is_head : IsHead h line
   pub free : HasNo 10 line
   pub short : length line < 4096
-  pub takes : TakesFirst old now before mid 0
+  pub takes : TakesCounted old now before mid 0
   pub sound : IsReader now
 
 pub at_payload : (h : CodeHead) (old mid now : Reader) (before after : Option (List ℕ)) (len : ℕ) → IsReader mid → IsReader now → Lines old mid before after (Some len) → UsesLine mid now len h → AtPayload old now before after (take len mid.held) (head_of h)
@@ -202,7 +218,7 @@ module _ (old now : Reader) (before mid : Option (List ℕ)) (line : List ℕ) (
         q.uses.counted,
       )
 
-  pub takes_command : (c : CodeCommand) → IsReader new → Finished now new mid after h c → TakesFirst old new before after 0
+  pub takes_command : (c : CodeCommand) → IsReader new → Finished now new mid after h c → TakesCounted old new before after 0
   takes_command c sound f = takes_both old now new before mid after 0 p.takes (takes_passed now new mid after (f.payload ++ close h) p.sound sound f.passed)
 
   -- or not whole
@@ -293,8 +309,12 @@ module _ (old now : Reader) (before mid : Option (List ℕ)) (line : List ℕ) (
 
   pub leaves_payload : (error : ScriptError) → PayloadStops now new mid after h error → LeavesError old new before after error
   leaves_payload (Fault number kind) f = elim f.1 [
-    | inl cut ↦ (line ++ 10 ∷ cut.0.part, (all_gone after cut.0.part cut.0.passed).uses, part_unfinished cut.0.part f.0 cut.0.few)
-    | inr tail ↦ (line ++ 10 ∷ tail.part, (all_gone after tail.part tail.passed).uses, part_unfinished tail.part f.0 (let n : length tail.part ≡ payload_len h = tail.sized in omega (arith, n)))
+    | inl cut ↦ (line ++ 10 ∷ cut.0.part, (all_gone after cut.0.part cut.0.passed).uses, subst (λ k. IsUsedBefore k (line ++ 10 ∷ cut.0.part)) (sym cut.2) (part_unfinished cut.0.part f.0 cut.0.few))
+    | inr tail ↦ (
+      line ++ 10 ∷ tail.part,
+      (all_gone after tail.part tail.passed).uses,
+      subst (λ k. IsUsedBefore k (line ++ 10 ∷ tail.part)) (sym tail.is_tail) (part_unfinished tail.part f.0 (let n : length tail.part ≡ payload_len h = tail.sized in omega (arith, n))),
+    )
   ]
   leaves_payload InputFailed f = elim f.1 [
     | inl i ↦ (line ++ 10 ∷ i.0.part, (all_gone after i.0.part i.0.passed).uses, held_none i.0.part i.1 (part_unfinished i.0.part f.0 i.0.few))
@@ -309,10 +329,10 @@ module _ (old now : Reader) (before mid : Option (List ℕ)) (line : List ℕ) (
     | inr none ↦ absurd none
   ]
 
-  part_takes : IsReader new → (last : Option (List ℕ)) (part : List ℕ) → Passed now new mid last part → TakesFirst old new before last 0
+  part_takes : IsReader new → (last : Option (List ℕ)) (part : List ℕ) → Passed now new mid last part → TakesCounted old new before last 0
   part_takes sound last part q = takes_both old now new before mid last 0 p.takes (takes_passed now new mid last part p.sound sound q)
 
-  pub takes_payload : (error : ScriptError) → IsReader new → PayloadStops now new mid after h error → TakesFirst old new before after (lost_by error)
+  pub takes_payload : (error : ScriptError) → IsReader new → PayloadStops now new mid after h error → TakesCounted old new before after (lost_by error)
   takes_payload (Fault number kind) sound f = elim f.1 [
     | inl cut ↦ part_takes sound after cut.0.part cut.0.passed
     | inr tail ↦ part_takes sound after tail.part tail.passed
@@ -325,7 +345,7 @@ module _ (old now : Reader) (before mid : Option (List ℕ)) (line : List ℕ) (
 abbrev pub counted : Reader → Reader
 counted r = record { held = r.held; taken = r.taken; commands = r.commands + 1; error = r.error }
 
-pub takes_counted : (old new : Reader) (before after : Option (List ℕ)) → TakesFirst old new before after 0 → TakesFirst old (counted new) before after 0
+pub takes_counted : (old new : Reader) (before after : Option (List ℕ)) → TakesCounted old new before after 0 → TakesCounted old (counted new) before after 0
 takes_counted old new before after t = record { later = t.later; inside = t.inside; rest = t.rest }
 
 -- an error is kept

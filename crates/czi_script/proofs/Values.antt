@@ -1,6 +1,6 @@
 -- The values of a line, as the code has them.
-use Rattle.std.proofs.Common.{◌≡◌, ℕ, ◌+◌, List, [], ◌∷◌, ◌++◌, take, drop, length, true, Option, Some, None, refl, ap, sym, ◌∙◌, subst}
-use Rattle.std.specs.Prelude.{◌==◌, codes, get_or}
+use Rattle.std.proofs.Common.{◌≡◌, ℕ, ◌+◌, ◌≤◌, List, [], ◌∷◌, ◌++◌, take, drop, length, true, Option, Some, None, ap, sym, ◌∙◌, subst, arith}
+use Rattle.std.specs.Prelude.{◌==◌, ◌^◌, codes, get_or}
 use Rattle.std.proofs.Math.Seq.{take-append_seam, drop-append_seam, drop-append-add}
 use Rattle.czi_format.specs.Partial.{given}
 use Rattle.czi_format.specs.Entry.{Dim, EntryInfo}
@@ -10,15 +10,18 @@ use Rattle.czi_doc.specs.declared.fault.TextFault.TheVariants.{Bad, Memory}
 use Rattle.czi_script.specs.declared.fields.Texts.{Texts}
 use Rattle.czi_script.specs.declared.fields.Refusal.{Refusal}
 use Rattle.czi_script.specs.declared.fields.Refusal.TheVariants.{Kind as OfKind, Memory as NoMemory}
-use Rattle.czi_script.specs.Script.{Head, Verb, Split, with_value, IsTile, IsSigned, AreValues, head_word, tile_word, tile_fields, needed, value_at, values_at, from_field}
-use Rattle.czi_script.specs.Pieces.{NoNumbers, RefusesTile, RefusesFields, values_in}
-use Rattle.czi_script.proofs.Grammar.{only_tile, only_remove}
+use Rattle.czi_script.specs.declared.attachments.Names.{Names}
+use Rattle.czi_script.specs.declared.kind.Kind.TheVariants.{Value}
+use Rattle.czi_script.specs.BytesText.{IsBytesText, IsPaddedText}
+use Rattle.czi_script.specs.Script.{Verb, Split, with_value, TileValues, IsSigned, IsSize, attachment_fields, attachment_word, metadata_fields, tile_word, tile_fields, needed, value_at, values_at, from_field}
+use Rattle.czi_script.specs.Pieces.{NoNumbers, RefusesAttachment, RefusesTile, RefusesFields, names_in, values_in}
+use Rattle.czi_script.proofs.Grammar.{only_tile, only_remove, only_attachment, only_detach, only_meta}
 
 abbrev nth : ℕ → List (List ℕ) → List ℕ
 nth n values = get_or values n []
 
 -- one of the numbers isn't of its form
-pub no_numbers : (t : Texts) → NoNumbers t → (info : EntryInfo) (meta pixels tail : ℕ) → IsTile info meta pixels tail (values_in t) → ⊥
+pub no_numbers : (t : Texts) → NoNumbers t → (info : EntryInfo) (meta pixels tail : ℕ) → TileValues info meta pixels tail (values_in t) → ⊥
 no_numbers t none info meta pixels tail r = none info.pixel info.compression info.pyramid meta pixels tail (
   subst (λ x. IsSigned x info.pixel) (sym (ap (nth 0) r.texts)) r.is_pixel,
   subst (λ x. IsSigned x info.compression) (sym (ap (nth 1) r.texts)) r.is_comp,
@@ -37,25 +40,47 @@ tile_refused verb t text (OfKind kind) given r = subst (λ k. RefusesFields (til
 )
 tile_refused verb t text NoMemory given r = tt
 
--- the one value of `remove`
+-- the value of a line that has one
 
-one_value : (text value rest : List ℕ) → Some (record { value = value; rest = rest }) ≡ value_at (codes " dims=") text → true ≡ (length rest == 0) → values_at (needed (codes " dims=") ∷ []) text ≡ Some (value ∷ [])
-one_value text value rest found none = ap (λ (found : Option Split). from_field found None (values_at []) text) (sym found) ∙ last
+pub one_value : (mark text value rest : List ℕ) → Some (record { value = value; rest = rest }) ≡ value_at mark text → true ≡ (length rest == 0) → values_at (needed mark ∷ []) text ≡ Some (value ∷ [])
+one_value mark text value rest found none = ap (λ (found : Option Split). from_field found None (values_at []) text) (sym found) ∙ last
   where
     last : from_field (Some (record { value = value; rest = rest })) None (values_at []) text ≡ Some (value ∷ [])
     last = ap (λ b. with_value value (given b [])) (sym none)
 
-pub remove_says : (text value rest : List ℕ) (dims : List Dim) → Some (record { value = value; rest = rest }) ≡ value_at (codes " dims=") text → true ≡ (length rest == 0) → IsDimText value dims
-    → (values : List (List ℕ)) × (values_at (needed (codes " dims=") ∷ []) text ≡ Some values) × ((x : List ℕ) × (values ≡ x ∷ []) × IsDimText x dims)
-remove_says text value rest dims given none is = (value ∷ [], one_value text value rest given none, (value, refl, is))
-
-pub remove_refused : (text value rest : List ℕ) → Some (record { value = value; rest = rest }) ≡ value_at (codes " dims=") text → true ≡ (length rest == 0) → ((dims : List Dim) → IsDimText value dims → ⊥)
-    → (values : List (List ℕ)) × (values_at (needed (codes " dims=") ∷ []) text ≡ Some values) × ((h : Head) → head_word h ≡ codes "remove" → AreValues h values → ⊥)
-remove_refused text value rest given none wrong = (
+pub remove_refused : (text value : List ℕ) → Some (value ∷ []) ≡ values_at (needed (codes " dims=") ∷ []) text → ((dims : List Dim) → IsDimText value dims → ⊥) → RefusesFields (codes "remove") (needed (codes " dims=") ∷ []) text (OfKind Value)
+remove_refused text value given wrong = (
   value ∷ [],
-  one_value text value rest given none,
-  λ h named are.
-      let x = only_remove h (value ∷ []) named are in wrong x.0 (subst (λ t. IsDimText t x.0) (sym (ap (nth 0) x.2)) x.3),
+  sym given,
+  λ h named are. let x = only_remove h (value ∷ []) named are in wrong x.0 (subst (λ t. IsDimText t x.0) (sym (ap (nth 0) x.2)) x.3),
+)
+
+-- the values of the lines of attachments and of the metadata
+
+pub attachment_refused : (verb : Verb) (t : Names) (text : List ℕ) → Some (names_in t) ≡ values_at attachment_fields text → RefusesAttachment t → RefusesFields (attachment_word verb) attachment_fields text (OfKind Value)
+attachment_refused verb t text given none = (names_in t, sym given, λ h named are. let x = only_attachment verb h (names_in t) named are in none x.0 x.1 x.2)
+
+pub wrong_type : (t : Names) → ((field : List ℕ) → IsPaddedText 8 t.kind.now field → ⊥) → RefusesAttachment t
+wrong_type t none = λ info len r. none info.kind (subst (λ x. IsPaddedText 8 x info.kind) (sym (ap (nth 1) r.texts)) r.is_type)
+
+pub wrong_name : (t : Names) → ((field : List ℕ) → IsPaddedText 80 t.name.now field → ⊥) → RefusesAttachment t
+wrong_name t none = λ info len r. none info.name (subst (λ x. IsPaddedText 80 x info.name) (sym (ap (nth 2) r.texts)) r.is_name)
+
+pub wrong_size : (t : Names) → ((n : ℕ) → IsNatural t.size.now n → 2 ^ 64 ≤ n) → RefusesAttachment t
+wrong_size t none = λ info len r. let much = none len (subst (λ x. IsNatural x len) (sym (ap (nth 3) r.texts)) r.is_data.0) in omega (arith, much, r.is_data.1)
+
+pub detach_refused : (text value : List ℕ) → Some (value ∷ []) ≡ values_at (needed (codes " name=") ∷ []) text → ((name : List ℕ) → IsBytesText 80 value name → ⊥) → RefusesFields (codes "detach") (needed (codes " name=") ∷ []) text (OfKind Value)
+detach_refused text value given wrong = (
+  value ∷ [],
+  sym given,
+  λ h named are. let x = only_detach h (value ∷ []) named are in wrong x.0 (subst (λ t. IsBytesText 80 t x.0) (sym (ap (nth 0) x.2)) x.3),
+)
+
+pub sizes_refused : (text a b : List ℕ) → Some (a ∷ b ∷ []) ≡ values_at metadata_fields text → ((xml tail : ℕ) → IsSize a xml → IsSize b tail → ⊥) → RefusesFields (codes "meta") metadata_fields text (OfKind Value)
+sizes_refused text a b given wrong = (
+  a ∷ b ∷ [],
+  sym given,
+  λ h named are. let x = only_meta h (a ∷ b ∷ []) named are in wrong x.0 x.1 (subst (λ t. IsSize t x.0) (sym (ap (nth 0) x.4)) x.5) (subst (λ t. IsSize t x.1) (sym (ap (nth 1) x.4)) x.6),
 )
 
 -- the parts of a payload

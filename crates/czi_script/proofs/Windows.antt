@@ -7,7 +7,7 @@ use Rattle.std.proofs.lemmas.List.{drop-take, take-append-le, drop-append-le, wi
 use Rattle.std.specs.Vec.{with_items}
 use Rattle.std.specs.declared.vec.Vec.{Vec}
 use Rattle.std.proofs.lemmas.Grind.{common_steps}
-use Rattle.czi_rig.specs.Source.{Takes}
+use Rattle.czi_rig.specs.Source.{TakesBytes}
 use Rattle.czi_script.specs.Reader.{GoesOn}
 use Rattle.czi_script.specs.Pieces.{Added, AtEnd}
 
@@ -44,21 +44,21 @@ longer_piece xs into rest from to n order inside fits =
     ap (λ k. take k (drop from (take to xs ++ (into ++ rest)))) long ∙ ap (λ l. take (length piece + n) l) (parted xs (into ++ rest) from to order inside)
     ∙ take-append-add piece (into ++ rest) n ∙ ap (λ l. piece ++ l) (take-append-le n into rest fits)
 
-taken_front : (n : ℕ) (into left : List ℕ) (after : Option (List ℕ)) → Takes n into left after → (rest : List ℕ) × (left ≡ take n into ++ rest) × (after ≡ Some rest)
+taken_front : (n : ℕ) (into left : List ℕ) (after : Option (List ℕ)) → TakesBytes n into left after → (rest : List ℕ) × (left ≡ take n into ++ rest) × (after ≡ Some rest)
 taken_front n into left after t = (drop n left, sym (take-append-drop n left) ∙ ap (λ l. l ++ drop n left) (sym t.bytes), t.rest)
 
-none_left : (n : ℕ) (into left : List ℕ) (after : Option (List ℕ)) → Takes n into left after → n ≡ 0 → after ≡ Some []
+none_left : (n : ℕ) (into left : List ℕ) (after : Option (List ℕ)) → TakesBytes n into left after → n ≡ 0 → after ≡ Some []
 none_left n into left after t none = t.rest ∙ ap (λ l. Some (drop n l)) (t.none.0 none) ∙ ap Some (drop-nil n)
 
 -- an input that gives no byte is at its end, and stays as it is
-pub at_end : (n : ℕ) (into : List ℕ) (before after : Option (List ℕ)) → n ≡ 0 → ((left : List ℕ) → before ≡ Some left → Takes n into left after) → is_some after ≡ is_some before → AtEnd after
+pub at_end : (n : ℕ) (into : List ℕ) (before after : Option (List ℕ)) → n ≡ 0 → ((left : List ℕ) → before ≡ Some left → TakesBytes n into left after) → is_some after ≡ is_some before → AtEnd after
 at_end n into None after none takes told = λ left is. absurd (no_truth (sym (ap is_some is) ∙ told))
   where
     no_truth : true ≡ false → ⊥
     no_truth e = cc
 at_end n into (Some before) after none takes told = λ left is. same_Some left [] (sym is ∙ none_left n into before after (takes before refl) none)
 
-pub same_left : (n : ℕ) (into : List ℕ) (before after : Option (List ℕ)) → n ≡ 0 → ((left : List ℕ) → before ≡ Some left → Takes n into left after) → is_some after ≡ is_some before → after ≡ before
+pub same_left : (n : ℕ) (into : List ℕ) (before after : Option (List ℕ)) → n ≡ 0 → ((left : List ℕ) → before ≡ Some left → TakesBytes n into left after) → is_some after ≡ is_some before → after ≡ before
 same_left n into None None none takes told = refl
 same_left n into None (Some after) none takes told = absurd (no_truth told)
   where
@@ -67,10 +67,10 @@ same_left n into None (Some after) none takes told = absurd (no_truth told)
 same_left n into (Some before) after none takes told = (takes before refl).rest ∙ ap (λ k. Some (drop k before)) none
 
 -- an input that gives one byte
-pub goes_on : (n : ℕ) (into : List ℕ) (before after : Option (List ℕ)) → (n ≡ 0 → ⊥) → n ≤ 1 → ((left : List ℕ) → before ≡ Some left → Takes n into left after) → GoesOn before after
+pub goes_on : (n : ℕ) (into : List ℕ) (before after : Option (List ℕ)) → (n ≡ 0 → ⊥) → n ≤ 1 → ((left : List ℕ) → before ≡ Some left → TakesBytes n into left after) → GoesOn before after
 goes_on n into before after some few takes = λ left is. one left (takes left is)
   where
-    one : (left : List ℕ) → Takes n into left after → (b : ℕ) × (rest : List ℕ) × (left ≡ b ∷ rest) × (after ≡ Some rest)
+    one : (left : List ℕ) → TakesBytes n into left after → (b : ℕ) × (rest : List ℕ) × (left ≡ b ∷ rest) × (after ≡ Some rest)
     one [] t = absurd (let fits : n ≤ 0 = t.fits in some (omega (arith, fits)))
     one (b ∷ rest) t = (b, rest, refl, t.rest ∙ ap (λ k. Some (drop k (b ∷ rest))) single)
       where
@@ -79,7 +79,7 @@ goes_on n into before after some few takes = λ left is. one left (takes left is
 
 -- what is added to the bytes that are held
 pub added : (xs into rest held new : List ℕ) (from to n : ℕ) (before after : Option (List ℕ)) → from ≤ to → to ≤ length xs → n ≤ length into → held ≡ slice_range xs from to
-    → new ≡ slice_range (take to xs ++ (into ++ rest)) from (to + n) → ((left : List ℕ) → before ≡ Some left → Takes n into left after) → is_some after ≡ is_some before → Added held new n before after
+    → new ≡ slice_range (take to xs ++ (into ++ rest)) from (to + n) → ((left : List ℕ) → before ≡ Some left → TakesBytes n into left after) → is_some after ≡ is_some before → Added held new n before after
 added xs into rest held new from to n before after order inside fits held_is new_is takes told = record {
   more = take n into;
   counted = grind (arith, length-take);
@@ -109,7 +109,7 @@ kept_in v xs into held from to k order inside long fits all held_is =
     ∙ kept_piece xs (into ++ drop k (drop to xs)) held from to order inside held_is
 
 pub added_in : {Z : Type 0} (v : Vec ℕ Z) (xs into held : List ℕ) (from to k n : ℕ) (before after : Option (List ℕ)) → from ≤ to → to ≤ length xs → length into ≡ k → to + k ≤ length xs → v.len ≡ length xs → held ≡ slice_range xs from to
-    → n ≤ length into → ((left : List ℕ) → before ≡ Some left → Takes n into left after) → is_some after ≡ is_some before
+    → n ≤ length into → ((left : List ℕ) → before ≡ Some left → TakesBytes n into left after) → is_some after ≡ is_some before
     → Added held (slice_range (with_items v (take to xs ++ (into ++ drop k (drop to xs)))).items from (to + n)) n before after
 added_in v xs into held from to k n before after order inside long fits all held_is few takes told =
     added xs into (drop k (drop to xs)) held _ from to n before after order inside few held_is
@@ -117,7 +117,7 @@ added_in v xs into held from to k n before after order inside long fits all held
 
 -- a buffer that is filled from its front
 pub filled_in : {Z : Type 0} (v : Vec ℕ Z) (xs into held : List ℕ) (to k n : ℕ) (before after : Option (List ℕ)) → to ≤ length xs → length into ≡ k → to + k ≤ length xs → v.len ≡ length xs → held ≡ take to xs
-    → n ≤ length into → ((left : List ℕ) → before ≡ Some left → Takes n into left after) → is_some after ≡ is_some before
+    → n ≤ length into → ((left : List ℕ) → before ≡ Some left → TakesBytes n into left after) → is_some after ≡ is_some before
     → Added held (take (to + n) (with_items v (take to xs ++ (into ++ drop k (drop to xs)))).items) n before after
 filled_in v xs into held to k n before after inside long fits all held_is few takes told =
     subst (λ j. Added held (take j (with_items v (take to xs ++ (into ++ drop k (drop to xs)))).items) n before after) (all_of (to + n))

@@ -7,16 +7,14 @@ use Rattle.std.proofs.lemmas.Slice.Eq.{bytes_eq-Decides}
 use Rattle.czi_format.specs.Partial.{◌>>=◌}
 use Rattle.czi_script.specs.declared.kind.Kind.{Kind}
 use Rattle.czi_script.specs.declared.kind.Kind.TheVariants.{Cut, Long, Word, Later, Field, Value, Tail}
-use Rattle.czi_script.specs.declared.command.Command.{Command as CodeCommand}
 use Rattle.czi_script.specs.declared.head.Head.{Head as CodeHead}
+use Rattle.czi_script.specs.declared.head.Plain.{Plain as CodePlain}
 use Rattle.czi_script.specs.declared.fields.Refusal.{Refusal}
 use Rattle.czi_script.specs.declared.fields.Refusal.TheVariants.{Kind as OfKind, Memory as NoMemory}
 use Rattle.czi_script.specs.Script.{Head, Alone, LineForm, FieldForm, IsHead, IsWrong, AreValues, head_word, word, behind_word, lines, later_words, is_among, fields_for, values_at, values_of}
-use Rattle.czi_script.specs.View.{command_of, head_of}
-use Rattle.czi_script.specs.Pieces.{SaysFields, RefusesBy, RefusesFields, Refuses}
-
-pub no_truth : true ≡ false → ⊥
-no_truth e = cc
+use Rattle.czi_script.specs.View.{head_of, plain_of}
+use Rattle.czi_script.specs.Pieces.{SaysFields, RefusesBy, RefusesFields, GivesNoCommand}
+use Rattle.czi_script.proofs.Tests.{no_truth}
 
 -- what holds of the word of each line holds of one whose fields are known
 pub each_line : (P : List ℕ → Type 0) (ls : List LineForm) → AllByRecursion (λ (l : LineForm). P l.name) ls → (w : List ℕ) → is_some (fields_for ls w) ≡ true → P w
@@ -31,7 +29,7 @@ each_line P (l ∷ ls) all w e = elim (cases_Bool (bytes_eq w l.name)) [
 
 -- the words that are built and the others are apart
 pub built_not_later : (w : List ℕ) → is_some (fields_for lines w) ≡ true → is_among later_words w ≡ false
-built_not_later w e = each_line (λ x. is_among later_words x ≡ false) lines (refl, (refl, (refl, (refl, (refl, (refl, (refl, tt))))))) w e
+built_not_later w e = each_line (λ x. is_among later_words x ≡ false) lines (refl, (refl, (refl, (refl, (refl, (refl, (refl, (refl, (refl, (refl, (refl, tt))))))))))) w e
 
 -- the values of a line whose fields are known
 values_by : (line : List ℕ) (fs : List FieldForm) → fields_for lines (word line) ≡ Some fs → values_of line ≡ values_at fs (behind_word line)
@@ -63,23 +61,23 @@ module _ (line w : List ℕ) (fs : List FieldForm) (named : word line ≡ w) (kn
       same o a b e f = cc
   refuses_by Tail r = r
 
-  pub refuses_line : (refusal : Refusal) → RefusesFields w fs (behind_word line) refusal → Refuses line refusal
+  pub refuses_line : (refusal : Refusal) → RefusesFields w fs (behind_word line) refusal → GivesNoCommand line refusal
   refuses_line (OfKind kind) r = refuses_by kind r
   refuses_line NoMemory r = tt
 
 pub says_result : (line w : List ℕ) (fs : List FieldForm) (front text : List ℕ) (r : Result CodeHead Refusal) → front ≡ word line → text ≡ behind_word line → (true ≡ bytes_eq front w) → fields_for lines w ≡ Some fs
-    → MatchResult r (λ h. SaysFields w fs text (head_of h)) (RefusesFields w fs text) → MatchResult r (λ h. IsHead (head_of h) line) (Refuses line)
+    → MatchResult r (λ h. SaysFields w fs text (head_of h)) (RefusesFields w fs text) → MatchResult r (λ h. IsHead (head_of h) line) (GivesNoCommand line)
 says_result line w fs front text (Ok h) front_is text_is same known s =
     says_line line w fs (sym front_is ∙ (bytes_eq-Decides front w).0 (sym same)) known (head_of h) (subst (λ t. SaysFields w fs t (head_of h)) text_is s)
 says_result line w fs front text (Err refusal) front_is text_is same known r =
     refuses_line line w fs (sym front_is ∙ (bytes_eq-Decides front w).0 (sym same)) known refusal (subst (λ t. RefusesFields w fs t refusal) text_is r)
 
 -- a line without fields
-pub bare_result : (line : List ℕ) (c : CodeCommand) (front text : List ℕ) (r : Result CodeHead Refusal) → front ≡ word line → text ≡ behind_word line → (true ≡ bytes_eq front (head_word (Alone (command_of c)))) → fields_for lines (head_word (Alone (command_of c))) ≡ Some []
-    → AreValues (Alone (command_of c)) [] → MatchResult r (λ h. (head_of h ≡ Alone (command_of c)) × (values_at [] text ≡ Some [])) (λ e. (e ≡ OfKind Field) × (values_at [] text ≡ None))
-    → MatchResult r (λ h. IsHead (head_of h) line) (Refuses line)
+pub bare_result : (line : List ℕ) (c : CodePlain) (front text : List ℕ) (r : Result CodeHead Refusal) → front ≡ word line → text ≡ behind_word line → (true ≡ bytes_eq front (head_word (Alone (plain_of c)))) → fields_for lines (head_word (Alone (plain_of c))) ≡ Some []
+    → AreValues (Alone (plain_of c)) [] → MatchResult r (λ h. (head_of h ≡ Alone (plain_of c)) × (values_at [] text ≡ Some [])) (λ e. (e ≡ OfKind Field) × (values_at [] text ≡ None))
+    → MatchResult r (λ h. IsHead (head_of h) line) (GivesNoCommand line)
 bare_result line c front text (Ok h) front_is text_is same known are s =
-    says_result line (head_word (Alone (command_of c))) [] front text (Ok h) front_is text_is same known
-    (subst (λ (k : Head). SaysFields (head_word (Alone (command_of c))) [] text k) (sym s.0) (refl, ([], s.1, are)))
+    says_result line (head_word (Alone (plain_of c))) [] front text (Ok h) front_is text_is same known
+    (subst (λ (k : Head). SaysFields (head_word (Alone (plain_of c))) [] text k) (sym s.0) (refl, ([], s.1, are)))
 bare_result line c front text (Err refusal) front_is text_is same known are r =
-    says_result line (head_word (Alone (command_of c))) [] front text (Err refusal) front_is text_is same known (subst (RefusesFields (head_word (Alone (command_of c))) [] text) (sym r.0) r.1)
+    says_result line (head_word (Alone (plain_of c))) [] front text (Err refusal) front_is text_is same known (subst (RefusesFields (head_word (Alone (plain_of c))) [] text) (sym r.0) r.1)

@@ -1,3 +1,4 @@
+pub mod BytesText
 pub mod Script
 pub mod View
 pub mod Reader

@@ -1,24 +1,27 @@
 -- Steps inside the reading of one command.
-use Rattle.std.specs.Prelude.{◌≡◌, ◌≢◌, ◌⊎◌, ℕ, ℤ, ◌+◌, ◌^◌, ◌<◌, ◌≤◌, List, [], ◌∷◌, ◌++◌, take, drop, length, Bool, true, false, Option, Some, None, option_map}
+use Rattle.std.specs.Prelude.{◌≡◌, ◌≢◌, ◌⊎◌, ℕ, ℤ, ◌+◌, ◌^◌, ◌<◌, ◌≤◌, List, [], ◌∷◌, ◌++◌, take, drop, length, Bool, true, false, Option, Some, None, option_map, map}
 use Rattle.std.specs.Option.{ForSome}
 use Rattle.std.specs.Borrow.{Bor}
-use Rattle.czi_format.specs.Entry.{EntryInfo}
+use Rattle.czi_format.specs.Entry.{AttInfo, EntryInfo}
+use Rattle.czi_format.specs.Text.{byte_text}
 use Rattle.czi_doc.specs.DimText.{IsNatural}
 use Rattle.czi_doc.specs.View.{info_of}
 use Rattle.czi_script.specs.declared.command.Command.{Command as CodeCommand}
 use Rattle.czi_script.specs.declared.head.Head.{Head as CodeHead}
-use Rattle.czi_script.specs.declared.head.Tile.{Tile as CodeTile}
-use Rattle.czi_script.specs.declared.head.Verb.{Verb as CodeVerb}
+use Rattle.czi_script.specs.declared.payload.Tile.{Tile as CodeTile}
+use Rattle.czi_script.specs.declared.payload.Verb.{Verb as CodeVerb}
 use Rattle.czi_script.specs.declared.kind.Kind.{Kind}
 use Rattle.czi_script.specs.declared.kind.Kind.TheVariants.{Cut, Long, Word, Later, Field, Value, Tail}
 use Rattle.czi_script.specs.declared.error.ScriptError.{ScriptError}
 use Rattle.czi_script.specs.declared.error.ScriptError.TheVariants.{Fault, Input as InputFailed, TooLong, Memory}
 use Rattle.czi_script.specs.declared.fields.Refusal.{Refusal}
 use Rattle.czi_script.specs.declared.fields.Refusal.TheVariants.{Kind as OfKind, Memory as NoMemory}
+use Rattle.czi_script.specs.declared.attachments.Names.{Names}
 use Rattle.czi_script.specs.declared.fields.Texts.{Texts}
 use Rattle.czi_script.specs.declared.lines.Front.{Front}
 use Rattle.czi_script.specs.declared.lines.Front.TheVariants.{Line, Long as TooFar, Part}
-use Rattle.czi_script.specs.Script.{HasNo, Head, IsHead, IsWrong, IsFault, IsTile, IsSigned, IsSize, FieldForm, Split, AreValues, head_word, values_at, payload_len, close, command_with}
+use Rattle.czi_script.specs.BytesText.{IsSpelled}
+use Rattle.czi_script.specs.Script.{HasNo, Head, Brings, Payload, Tile, Attachment, Metadata, Piece, IsHead, IsWrong, IsFault, TileValues, AttachmentValues, IsSigned, IsSize, FieldForm, Split, AreValues, head_word, values_at, pieces, payload_len, close, command_with}
 use Rattle.czi_script.specs.Reader.{Reader, Uses, GoesOn, HoldsNoLine, limit}
 use Rattle.czi_script.specs.View.{command_of, head_of}
 
@@ -29,9 +32,9 @@ IsFront bytes TooFar = (4096 ≤ length bytes) × HasNo 10 (take 4096 bytes)
 IsFront bytes Part = (length bytes < 4096) × HasNo 10 bytes
 
 -- why a whole line gives no command
-abbrev pub Refuses : List ℕ → Refusal → Type 0
-Refuses line (OfKind kind) = IsWrong kind line
-Refuses line NoMemory = Unit {0}
+abbrev pub GivesNoCommand : List ℕ → Refusal → Type 0
+GivesNoCommand line (OfKind kind) = IsWrong kind line
+GivesNoCommand line NoMemory = Unit {0}
 
 -- the input is at its end
 abbrev pub AtEnd : Option (List ℕ) → Type 0
@@ -216,6 +219,23 @@ abbrev pub RefusesFields : List ℕ → List FieldForm → List ℕ → Refusal 
 RefusesFields w fs text (OfKind kind) = RefusesBy w fs text kind
 RefusesFields w fs text NoMemory = Unit {0}
 
+-- the pieces of a payload, with empty ones behind them up to three
+abbrev pub no_piece : Piece
+no_piece = record { len = 0; limit = 0 }
+
+abbrev pub three_pieces : Payload → List Piece
+three_pieces (Tile verb info meta pixels tail) = pieces (Brings (Tile verb info meta pixels tail))
+three_pieces (Attachment verb info len) = pieces (Brings (Attachment verb info len)) ++ no_piece ∷ no_piece ∷ []
+three_pieces (Metadata xml tail) = pieces (Brings (Metadata xml tail)) ++ no_piece ∷ []
+
+-- lists of bytes have as many as these pieces
+abbrev pub HaveSizes : List Piece → List ℕ → List ℕ → List ℕ → Type 0
+HaveSizes ps first second third = map (λ (p : Piece). p.len) ps ≡ length first ∷ length second ∷ length third ∷ []
+
+-- bytes text in front of which stands the spelling of this byte
+abbrev pub SpellsFirst : List ℕ → ℕ → List ℕ → Type 0
+SpellsFirst text b rest = (text ≡ byte_text b ++ rest) × IsSpelled b
+
 -- the values of a subblock's line
 abbrev pub values_in : Texts → List (List ℕ)
 values_in t = t.pixel.now ∷ t.comp.now ∷ t.pyramid.now ∷ t.dims.now ∷ t.meta.now ∷ t.pixels.now ∷ t.att.now ∷ []
@@ -227,8 +247,19 @@ abbrev pub NoNumbers : Texts → Type 0
 NoNumbers t = (pixel comp : ℤ) (pyramid meta pixels tail : ℕ) → AreNumbers t pixel comp pyramid meta pixels tail → ⊥
 
 abbrev pub ReadsTile : CodeVerb → Texts → CodeTile → Type 0
-ReadsTile verb t tile = (tile.verb ≡ verb) × IsTile (info_of tile.info) tile.meta tile.pixels tile.tail (values_in t)
+ReadsTile verb t tile = (tile.verb ≡ verb) × TileValues (info_of tile.info) tile.meta tile.pixels tile.tail (values_in t)
 
 abbrev pub RefusesTile : Texts → Refusal → Type 0
-RefusesTile t (OfKind kind) = (kind ≡ Value) × ((info : EntryInfo) (meta pixels tail : ℕ) → IsTile info meta pixels tail (values_in t) → ⊥)
+RefusesTile t (OfKind kind) = (kind ≡ Value) × ((info : EntryInfo) (meta pixels tail : ℕ) → TileValues info meta pixels tail (values_in t) → ⊥)
 RefusesTile t NoMemory = Unit {0}
+
+-- the values of an attachment's line
+abbrev pub names_in : Names → List (List ℕ)
+names_in t = t.guid.now ∷ t.kind.now ∷ t.name.now ∷ t.size.now ∷ []
+
+abbrev pub RefusesAttachment : Names → Type 0
+RefusesAttachment t = (info : AttInfo) (len : ℕ) → AttachmentValues info len (names_in t) → ⊥
+
+-- two values
+abbrev pub two_values : Bor (List ℕ) × Bor (List ℕ) → List (List ℕ)
+two_values x = x.0.now ∷ x.1.now ∷ []

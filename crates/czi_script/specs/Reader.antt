@@ -5,6 +5,8 @@ use Rattle.czi_rig.specs.Faults.{Device, input}
 use Rattle.czi_script.specs.declared.command.Command.{Command as CodeCommand}
 use Rattle.czi_script.specs.declared.error.ScriptError.{ScriptError}
 use Rattle.czi_script.specs.declared.error.ScriptError.TheVariants.{Fault, Input as InputFailed, TooLong, Memory}
+use Rattle.czi_script.specs.declared.kind.Kind.{Kind}
+use Rattle.czi_script.specs.declared.kind.Kind.TheVariants.{Cut, Long, Word, Later, Field, Value, Tail}
 use Rattle.czi_script.specs.Script.{HasNo, IsUnfinished, Next, Ended, Wrong, Beyond, Finds, Spells}
 use Rattle.czi_script.specs.View.{command_of}
 
@@ -65,12 +67,23 @@ pub record Uses (old new : Reader) (before after : Option (List ℕ)) (bytes : L
 abbrev pub GoesOn : Option (List ℕ) → Option (List ℕ) → Type 0
 GoesOn before after = ForSome before (λ left. (b : ℕ) × (rest : List ℕ) × (left ≡ b ∷ rest) × (after ≡ Some rest))
 
+-- A line that is wrong or too long isn't used. Of a command that is cut, or whose payload ends otherwise, the bytes in front of
+-- that may be.
+abbrev pub IsUsedBefore : Kind → List ℕ → Type 0
+IsUsedBefore Cut gone = IsUnfinished gone
+IsUsedBefore Long gone = gone ≡ []
+IsUsedBefore Word gone = gone ≡ []
+IsUsedBefore Later gone = gone ≡ []
+IsUsedBefore Field gone = gone ≡ []
+IsUsedBefore Value gone = gone ≡ []
+IsUsedBefore Tail gone = IsUnfinished gone
+
 -- What is ahead afterwards: what stands behind the spelling of the command that was read, and else all that was, but for bytes
 -- of an unfinished command, which may be used. Where the input failed, or goes on behind the limit, each command was read whose
 -- bytes were taken: those that were used, with those that are held, are an unfinished command. Behind the limit the byte that
 -- shows that the input goes on is lost.
 abbrev pub LeavesError : Reader → Reader → Option (List ℕ) → Option (List ℕ) → ScriptError → Type 0
-LeavesError old new before after (Fault number kind) = (gone : List ℕ) × Uses old new before after gone × IsUnfinished gone
+LeavesError old new before after (Fault number kind) = (gone : List ℕ) × Uses old new before after gone × IsUsedBefore kind gone
 LeavesError old new before after InputFailed = (gone : List ℕ) × Uses old new before after gone × IsUnfinished (gone ++ new.held)
 LeavesError old new before after TooLong = (gone : List ℕ) × (middle : Option (List ℕ)) × Uses old new before middle gone × IsUnfinished (gone ++ new.held) × (new.taken ≡ limit) × GoesOn middle after
 LeavesError old new before after Memory = (gone : List ℕ) × Uses old new before after gone × IsUnfinished gone
@@ -127,7 +140,7 @@ lost (Ok found) = 0
 lost (Err error) = lost_by error
 
 -- The bytes that are taken are the first that the input has left. All of them are counted, but for one behind the limit.
-pub record TakesFirst (old new : Reader) (before after : Option (List ℕ)) (more : ℕ) : Type 0 where
+pub record TakesCounted (old new : Reader) (before after : Option (List ℕ)) (more : ℕ) : Type 0 where
   pub later : old.taken ≤ new.taken
   pub inside : ForSome before (λ left. (new.taken - old.taken) + more ≤ length left)
   pub rest : ForSome before (λ left. after ≡ Some (drop ((new.taken - old.taken) + more) left))

@@ -1,37 +1,62 @@
 -- Edit scripts: a list of commands, each of which is one line that ends with a line feed. Where a line says so, the bytes of a
 -- payload follow, and one line feed more. A line is a word and fields ` name=value`, each after one space.
-use Rattle.std.specs.Prelude.{◌≡◌, ◌≢◌, ◌⊎◌, ℕ, ◌+◌, ◌^◌, ◌<◌, ◌≤◌, ℤ, List, [], ◌∷◌, ◌++◌, take, drop, length, replicate, Bool, not, ◌==◌, nat_lt, IsTrue, IsFalse, codes, bytes_eq, FitsSigned, Option, Some, None, is_some, if◌then◌else◌}
+use Rattle.std.specs.Prelude.{◌≡◌, ◌≢◌, ◌⊎◌, ℕ, ◌+◌, ◌^◌, ◌<◌, ◌≤◌, ℤ, List, [], ◌∷◌, ◌++◌, take, drop, length, replicate, Bool, not, ◌==◌, nat_lt, IsTrue, IsFalse, codes, bytes_eq, FitsSigned, Option, Some, None, is_some, option_map, if◌then◌else◌}
 use Rattle.std.specs.Int.{w32}
 use Rattle.std.specs.List.{AllByRecursion, list_any, prefix_len}
 use Rattle.czi_format.specs.Partial.{◌>>=◌, given}
-use Rattle.czi_format.specs.Entry.{Dim, EntryInfo}
+use Rattle.uuid.specs.Text.{parsed}
+use Rattle.czi_format.specs.Bytes.{stored_order}
+use Rattle.czi_format.specs.Entry.{AttInfo, Dim, EntryInfo}
+use Rattle.czi_format.specs.declared.numbers.TheConstants.{DATA_LIMIT, TEXT_LIMIT}
 use Rattle.czi_doc.specs.DimText.{IsDimText, IsNatural, IsNumber}
+use Rattle.czi_script.specs.BytesText.{IsBytesText, IsPaddedText}
 use Rattle.czi_script.specs.declared.kind.Kind.{Kind}
 use Rattle.czi_script.specs.declared.kind.Kind.TheVariants.{Cut, Long, Word, Later, Field, Value, Tail}
 
 -- What a script asks for: to add a subblock with these metadata, pixel data and attachment, or to put it in the place of the
--- one that its dimensions name; to remove the subblock that these dimensions name, to list the subblocks, to tell of the
--- image, to map its free space, or to count its segments. Nothing is asked for by a command with a payload of which a piece
--- has so many bytes, which is past this limit.
+-- one that its dimensions name; to remove the subblock that these dimensions name; to attach these bytes, or to put them in the
+-- place of the attachment with their name; to detach the one with this name; to set the metadata to this XML and attachment; to
+-- list the subblocks, to tell of the image, to map its free space, or to count its segments. Nothing is asked for by a command
+-- with a payload of which a piece has so many bytes, which is past this limit.
 pub data Command : Type 0 where
   Add : EntryInfo → List ℕ → List ℕ → List ℕ → Command
   Replace : EntryInfo → List ℕ → List ℕ → List ℕ → Command
   Remove : List Dim → Command
+  Attach : AttInfo → List ℕ → Command
+  Reattach : AttInfo → List ℕ → Command
+  Detach : List ℕ → Command
+  SetMeta : List ℕ → List ℕ → Command
   Listing : Command
   Info : Command
   Map : Command
   Check : Command
   Past : ℕ → ℕ → Command
 
--- whether a subblock is added, or put in the place of another
+-- whether something is added, or put in the place of another
 pub data Verb : Type 0 where
   Adds : Verb
   Replaces : Verb
 
--- What a line says: a whole command, or a subblock, and how many bytes of metadata, pixel data and attachment follow.
+-- a command that its line says whole
+pub data Plain : Type 0 where
+  Removes : List Dim → Plain
+  Detaches : List ℕ → Plain
+  Lists : Plain
+  Tells : Plain
+  Maps : Plain
+  Checks : Plain
+
+-- What follows a line: a subblock's metadata, pixel data and attachment, the bytes of an attachment, or the XML and the
+-- attachment of the metadata, and how many bytes each of these has.
+pub data Payload : Type 0 where
+  Tile : Verb → EntryInfo → ℕ → ℕ → ℕ → Payload
+  Attachment : Verb → AttInfo → ℕ → Payload
+  Metadata : ℕ → ℕ → Payload
+
+-- What a line says: a whole command, or what follows it.
 pub data Head : Type 0 where
-  Alone : Command → Head
-  Tile : Verb → EntryInfo → ℕ → ℕ → ℕ → Head
+  Alone : Plain → Head
+  Brings : Payload → Head
 
 -- none of the bytes is b
 abbrev pub HasNo : ℕ → List ℕ → Type 0
@@ -74,11 +99,21 @@ pub record LineForm : Type 0 where
 abbrev pub tile_fields : List FieldForm
 tile_fields = needed (codes " pixel=") ∷ zero_if_missing (codes " comp=") ∷ zero_if_missing (codes " pyramid=") ∷ needed (codes " dims=") ∷ needed (codes " meta=") ∷ needed (codes " data=") ∷ needed (codes " att=") ∷ []
 
+abbrev pub attachment_fields : List FieldForm
+attachment_fields = needed (codes " guid=") ∷ needed (codes " type=") ∷ needed (codes " name=") ∷ needed (codes " data=") ∷ []
+
+abbrev pub metadata_fields : List FieldForm
+metadata_fields = needed (codes " xml=") ∷ needed (codes " att=") ∷ []
+
 -- the lines that are built, and the words of the format's other lines
 abbrev pub lines : List LineForm
 lines = record { name = codes "add"; fields = tile_fields }
     ∷ record { name = codes "replace"; fields = tile_fields }
     ∷ record { name = codes "remove"; fields = needed (codes " dims=") ∷ [] }
+    ∷ record { name = codes "attach"; fields = attachment_fields }
+    ∷ record { name = codes "reattach"; fields = attachment_fields }
+    ∷ record { name = codes "detach"; fields = needed (codes " name=") ∷ [] }
+    ∷ record { name = codes "meta"; fields = metadata_fields }
     ∷ record { name = codes "list"; fields = [] }
     ∷ record { name = codes "info"; fields = [] }
     ∷ record { name = codes "map"; fields = [] }
@@ -86,7 +121,7 @@ lines = record { name = codes "add"; fields = tile_fields }
     ∷ []
 
 abbrev pub later_words : List (List ℕ)
-later_words = codes "attach" ∷ codes "reattach" ∷ codes "detach" ∷ codes "meta" ∷ codes "undo" ∷ codes "repack" ∷ codes "region" ∷ []
+later_words = codes "undo" ∷ codes "repack" ∷ codes "region" ∷ []
 
 abbrev pub is_among : List (List ℕ) → List ℕ → Bool
 is_among words w = list_any (bytes_eq w) words
@@ -128,7 +163,7 @@ abbrev pub IsSize : List ℕ → ℕ → Type 0
 IsSize text n = IsNatural text n × (n < 2 ^ 64)
 
 -- The values of a subblock's line. The spare bytes of its entry are zero.
-pub record IsTile (info : EntryInfo) (meta pixels tail : ℕ) (values : List (List ℕ)) : Type 0 where
+pub record TileValues (info : EntryInfo) (meta pixels tail : ℕ) (values : List (List ℕ)) : Type 0 where
   pub pixel_text : List ℕ
   pub comp_text : List ℕ
   pub pyramid_text : List ℕ
@@ -146,32 +181,48 @@ pub record IsTile (info : EntryInfo) (meta pixels tail : ℕ) (values : List (Li
   pub is_att : IsSize att_text tail
   pub spare : info.spare ≡ replicate 5 0
 
+-- The values of an attachment's line: a GUID, and a type and a name in bytes text.
+pub record AttachmentValues (info : AttInfo) (len : ℕ) (values : List (List ℕ)) : Type 0 where
+  pub guid_text : List ℕ
+  pub type_text : List ℕ
+  pub name_text : List ℕ
+  pub data_text : List ℕ
+  pub texts : values ≡ guid_text ∷ type_text ∷ name_text ∷ data_text ∷ []
+  pub is_guid : option_map stored_order (parsed guid_text) ≡ Some info.guid
+  pub is_type : IsPaddedText 8 type_text info.kind
+  pub is_name : IsPaddedText 80 name_text info.name
+  pub is_data : IsSize data_text len
+
 -- what each line says, by its word and its values
 abbrev pub tile_word : Verb → List ℕ
 tile_word Adds = codes "add"
 tile_word Replaces = codes "replace"
 
+abbrev pub attachment_word : Verb → List ℕ
+attachment_word Adds = codes "attach"
+attachment_word Replaces = codes "reattach"
+
 abbrev pub head_word : Head → List ℕ
-head_word (Tile verb info meta pixels tail) = tile_word verb
-head_word (Alone (Remove dims)) = codes "remove"
-head_word (Alone Listing) = codes "list"
-head_word (Alone Info) = codes "info"
-head_word (Alone Map) = codes "map"
-head_word (Alone Check) = codes "check"
-head_word (Alone (Add info meta pixels tail)) = []
-head_word (Alone (Replace info meta pixels tail)) = []
-head_word (Alone (Past len limit)) = []
+head_word (Brings (Tile verb info meta pixels tail)) = tile_word verb
+head_word (Alone (Removes dims)) = codes "remove"
+head_word (Brings (Attachment verb info len)) = attachment_word verb
+head_word (Alone (Detaches name)) = codes "detach"
+head_word (Brings (Metadata xml tail)) = codes "meta"
+head_word (Alone Lists) = codes "list"
+head_word (Alone Tells) = codes "info"
+head_word (Alone Maps) = codes "map"
+head_word (Alone Checks) = codes "check"
 
 abbrev pub AreValues : Head → List (List ℕ) → Type 0
-AreValues (Tile verb info meta pixels tail) values = IsTile info meta pixels tail values
-AreValues (Alone (Remove dims)) values = (text : List ℕ) × (values ≡ text ∷ []) × IsDimText text dims
-AreValues (Alone Listing) values = values ≡ []
-AreValues (Alone Info) values = values ≡ []
-AreValues (Alone Map) values = values ≡ []
-AreValues (Alone Check) values = values ≡ []
-AreValues (Alone (Add info meta pixels tail)) values = ⊥
-AreValues (Alone (Replace info meta pixels tail)) values = ⊥
-AreValues (Alone (Past len limit)) values = ⊥
+AreValues (Brings (Tile verb info meta pixels tail)) values = TileValues info meta pixels tail values
+AreValues (Alone (Removes dims)) values = (text : List ℕ) × (values ≡ text ∷ []) × IsDimText text dims
+AreValues (Brings (Attachment verb info len)) values = AttachmentValues info len values
+AreValues (Alone (Detaches name)) values = (text : List ℕ) × (values ≡ text ∷ []) × IsBytesText 80 text name
+AreValues (Brings (Metadata xml tail)) values = (a b : List ℕ) × (values ≡ a ∷ b ∷ []) × IsSize a xml × IsSize b tail
+AreValues (Alone Lists) values = values ≡ []
+AreValues (Alone Tells) values = values ≡ []
+AreValues (Alone Maps) values = values ≡ []
+AreValues (Alone Checks) values = values ≡ []
 
 -- The line, without its line feed, says this. A number or a dimension text may have several spellings, and so does the line.
 pub record IsHead (head : Head) (line : List ℕ) : Type 0 where
@@ -185,15 +236,11 @@ pub record Piece : Type 0 where
   pub len : ℕ
   pub limit : ℕ
 
-abbrev pub text_limit : ℕ
-text_limit = 2 ^ 24
-
-abbrev pub data_limit : ℕ
-data_limit = 2 ^ 26
-
 abbrev pub pieces : Head → List Piece
 pieces (Alone c) = []
-pieces (Tile verb info meta pixels tail) = record { len = meta; limit = text_limit } ∷ record { len = pixels; limit = data_limit } ∷ record { len = tail; limit = data_limit } ∷ []
+pieces (Brings (Tile verb info meta pixels tail)) = record { len = meta; limit = TEXT_LIMIT } ∷ record { len = pixels; limit = DATA_LIMIT } ∷ record { len = tail; limit = DATA_LIMIT } ∷ []
+pieces (Brings (Attachment verb info len)) = record { len = len; limit = DATA_LIMIT } ∷ []
+pieces (Brings (Metadata xml tail)) = record { len = xml; limit = TEXT_LIMIT } ∷ record { len = tail; limit = DATA_LIMIT } ∷ []
 
 abbrev pub total : List Piece → ℕ
 total [] = 0
@@ -205,7 +252,7 @@ payload_len head = total (pieces head)
 -- what stands behind the line and its payload
 abbrev pub close : Head → List ℕ
 close (Alone c) = []
-close (Tile verb info meta pixels tail) = 10 ∷ []
+close (Brings p) = 10 ∷ []
 
 -- how many bytes stand behind the line and its line feed
 abbrev pub rest_len : Head → ℕ
@@ -216,11 +263,22 @@ abbrev pub first_past : List Piece → Option Piece
 first_past [] = None
 first_past (p ∷ ps) = if nat_lt p.limit p.len then Some p else first_past ps
 
--- the command, by the payload
+-- the command of a line, and of a line and its payload
+abbrev pub plain_command : Plain → Command
+plain_command (Removes dims) = Remove dims
+plain_command (Detaches name) = Detach name
+plain_command Lists = Listing
+plain_command Tells = Info
+plain_command Maps = Map
+plain_command Checks = Check
+
 abbrev pub with_contents : Head → List ℕ → Command
-with_contents (Alone c) payload = c
-with_contents (Tile Adds info meta pixels tail) payload = Add info (take meta payload) (take pixels (drop meta payload)) (drop (meta + pixels) payload)
-with_contents (Tile Replaces info meta pixels tail) payload = Replace info (take meta payload) (take pixels (drop meta payload)) (drop (meta + pixels) payload)
+with_contents (Alone c) payload = plain_command c
+with_contents (Brings (Tile Adds info meta pixels tail)) payload = Add info (take meta payload) (take pixels (drop meta payload)) (drop (meta + pixels) payload)
+with_contents (Brings (Tile Replaces info meta pixels tail)) payload = Replace info (take meta payload) (take pixels (drop meta payload)) (drop (meta + pixels) payload)
+with_contents (Brings (Attachment Adds info len)) payload = Attach info payload
+with_contents (Brings (Attachment Replaces info len)) payload = Reattach info payload
+with_contents (Brings (Metadata xml tail)) payload = SetMeta (take xml payload) (drop xml payload)
 
 abbrev pub or_past : Option Piece → Command → Command
 or_past None c = c

@@ -1,6 +1,6 @@
 //! The commands of a script.
 
-use czi_doc::{Bytes, Dims, EntryInfo};
+use czi_doc::{AttInfo, Bytes, Dims, EntryInfo};
 
 /// One command of a script.
 #[derive(PartialEq, Eq, Drop)]
@@ -31,6 +31,32 @@ pub enum Command {
     Remove {
         /// The dimensions that name the subblock.
         dims: Dims,
+    },
+    /// `attach`: an attachment is to be added.
+    Attach {
+        /// What the attachment directory's entry is to say of it.
+        info: AttInfo,
+        /// Its bytes.
+        bytes: Bytes,
+    },
+    /// `reattach`: an attachment is to be put in the place of the one with its name.
+    Reattach {
+        /// What the attachment directory's entry is to say of it.
+        info: AttInfo,
+        /// Its bytes.
+        bytes: Bytes,
+    },
+    /// `detach`: the attachment with this name is to go.
+    Detach {
+        /// The name, of at most 80 bytes, none of which is zero.
+        name: Bytes,
+    },
+    /// `meta`: the metadata of the image is to be set.
+    SetMeta {
+        /// The XML.
+        xml: Bytes,
+        /// What is attached to it.
+        tail: Bytes,
     },
     /// `list`: the subblocks are to be listed.
     List,

@@ -1,14 +1,15 @@
 //! The fields of a line, behind its word.
 
-ghost use Rattle.std.specs.Prelude.{◌≡◌, ◌≤◌, ◌^◌, ℕ, [], ◌∷◌, Some, None, codes, length, option_map, MatchOption, MatchResult};
+ghost use Rattle.std.specs.Prelude.{◌≡◌, ◌≤◌, ◌^◌, ℕ, List, [], ◌∷◌, Some, None, codes, length, option_map, MatchOption, MatchResult};
+ghost use Rattle.std.specs.Borrow.{Bor};
 ghost use Rattle.czi_doc.specs.DimText.{IsNatural};
 ghost use Rattle.czi_script.specs.Script.{Alone, len_before, needed, tile_fields, tile_word, value_at, values_at};
-ghost use Rattle.czi_script.specs.View.{command_of, head_of, verb_of};
+ghost use Rattle.czi_script.specs.View.{head_of, plain_of, verb_of};
 ghost use Rattle.czi_script.specs.Pieces.{AreNumbers, NoNumbers, ReadsTile, RefusesFields, RefusesTile, SaysFields, split_of, values_in};
 
-use crate::command::Command;
-use crate::head::{Head, Tile, Verb};
+use crate::head::{Head, Plain};
 use crate::kind::Kind;
+use crate::payload::{Payload, Tile, Verb};
 use czi_doc::{EntryInfo, TextFault, read_dims, read_integer, read_natural};
 use std::alloc::Global;
 
@@ -53,7 +54,7 @@ pub(crate) fn len_before(end: u8, bytes: &[u8]) -> usize
 }
 
 /// The value behind a mark, and what stands behind it. None where the text doesn't begin with the mark.
-fn value_at<'a>(mark: &[u8], text: &'a [u8]) -> Option<(&'a [u8], &'a [u8])>
+pub(crate) fn value_at<'a>(mark: &[u8], text: &'a [u8]) -> Option<(&'a [u8], &'a [u8])>
     ensures { split_of result ≡ value_at mark.now text.now }
 {
     let Some(behind) = text.strip_prefix(mark) else {
@@ -70,6 +71,14 @@ fn value_or_zero<'a>(mark: &[u8], text: &'a [u8]) -> (&'a [u8], &'a [u8])
         Some(found) => found,
         None => (b"0", text),
     }
+}
+
+/// The value of the one field of a line. None where the fields aren't right.
+pub(crate) fn one_value<'a>(mark: &[u8], fields: &'a [u8]) -> Option<&'a [u8]>
+    ensures { option_map (λ (v : Bor (List ℕ)). v.now ∷ []) result ≡ values_at (needed mark.now ∷ []) fields.now }
+{
+    let (value, rest) = value_at(mark, fields)?;
+    if rest.is_empty() { Some(value) } else { None }
 }
 
 /// The values of the fields of a subblock's line. None where the fields aren't right.
@@ -161,7 +170,7 @@ pub(crate) fn tile_in(alloc: Global, verb: Verb, fields: &[u8]) -> Result<Head, 
         return Err(Refusal::Kind(Kind::Field));
     };
     match tile_by(alloc, verb, &texts) {
-        Ok(tile) => Ok(Head::Tile(tile)),
+        Ok(tile) => Ok(Head::Brings(Payload::Tile(tile))),
         Err(refusal) => Err(refusal),
     }
 }
@@ -170,22 +179,19 @@ pub(crate) fn tile_in(alloc: Global, verb: Verb, fields: &[u8]) -> Result<Head, 
 pub(crate) fn remove_in(alloc: Global, fields: &[u8]) -> Result<Head, Refusal>
     ensures { MatchResult result (λ h. SaysFields (codes "remove") (needed (codes " dims=") ∷ []) fields.now (head_of h)) (RefusesFields (codes "remove") (needed (codes " dims=") ∷ []) fields.now) }
 {
-    let Some((text, rest)) = value_at(b" dims=", fields) else {
+    let Some(text) = one_value(b" dims=", fields) else {
         return Err(Refusal::Kind(Kind::Field));
     };
-    if !rest.is_empty() {
-        return Err(Refusal::Kind(Kind::Field));
-    }
     match read_dims(alloc, text) {
-        Ok(dims) => Ok(Head::Alone(Command::Remove { dims })),
+        Ok(dims) => Ok(Head::Alone(Plain::Remove(dims))),
         Err(TextFault::Bad(_)) => Err(Refusal::Kind(Kind::Value)),
         Err(TextFault::Memory) => Err(Refusal::Memory),
     }
 }
 
 /// What the line of a command without fields says.
-pub(crate) fn bare_in(command: Command, fields: &[u8]) -> Result<Head, Refusal>
-    ensures { MatchResult result (λ h. (head_of h ≡ Alone (command_of command)) × (values_at [] fields.now ≡ Some [])) (λ r. (r ≡ Refusal.Kind Kind.Field) × (values_at [] fields.now ≡ None)) }
+pub(crate) fn bare_in(command: Plain, fields: &[u8]) -> Result<Head, Refusal>
+    ensures { MatchResult result (λ h. (head_of h ≡ Alone (plain_of command)) × (values_at [] fields.now ≡ Some [])) (λ r. (r ≡ Refusal.Kind Kind.Field) × (values_at [] fields.now ≡ None)) }
 {
     if fields.is_empty() {
         Ok(Head::Alone(command))

@@ -16,6 +16,6 @@ pub enum Kind {
     Field,
     /// The fields are right, and a value isn't of its form.
     Value,
-    /// The byte after a payload isn't a line feed. No command has a payload yet.
+    /// The byte after a payload isn't a line feed.
     Tail,
 }

@@ -1,6 +1,8 @@
 //! Edit scripts, read command by command from an input.
 #![tactic(auto)]
 
+mod attachments;
+mod bytes_text;
 mod command;
 mod error;
 mod fields;
@@ -9,6 +11,7 @@ mod head;
 mod kind;
 mod laws;
 mod lines;
+mod payload;
 mod reader;
 mod window;
 

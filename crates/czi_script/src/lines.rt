@@ -4,12 +4,13 @@ ghost use Rattle.std.specs.Prelude.{◌≡◌, ◌<◌, ◌≤◌, length, take,
 ghost use Rattle.std.specs.List.{list_any};
 ghost use Rattle.czi_script.specs.Script.{HasNo, IsHead, is_among, later_words};
 ghost use Rattle.czi_script.specs.View.{head_of};
-ghost use Rattle.czi_script.specs.Pieces.{IsFront, Refuses};
+ghost use Rattle.czi_script.specs.Pieces.{IsFront, GivesNoCommand};
 
-use crate::command::Command;
+use crate::attachments::{attachment_in, detach_in, metadata_in};
 use crate::fields::{Refusal, bare_in, len_before, remove_in, tile_in};
-use crate::head::{Head, Verb};
+use crate::head::{Head, Plain};
 use crate::kind::Kind;
+use crate::payload::Verb;
 use std::alloc::Global;
 
 /// How many bytes a line has at most, with its line feed.
@@ -45,9 +46,7 @@ pub(crate) fn front_of(bytes: &[u8], seen: usize) -> Front
 }
 
 /// The command words of the format that aren't built yet.
-const LATER_WORDS: [&str; 7] = [
-    "attach", "reattach", "detach", "meta", "undo", "repack", "region",
-];
+const LATER_WORDS: [&str; 3] = ["undo", "repack", "region"];
 
 /// Whether the bytes are this text.
 fn is_text(bytes: &[u8], text: &str) -> bool
@@ -72,7 +71,7 @@ fn is_later(word: &[u8]) -> bool
 
 /// What a line says, without its line feed.
 pub(crate) fn head_in(alloc: Global, line: &[u8]) -> Result<Head, Refusal>
-    ensures { MatchResult result (λ h. IsHead (head_of h) line.now) (Refuses line.now) }
+    ensures { MatchResult result (λ h. IsHead (head_of h) line.now) (GivesNoCommand line.now) }
 {
     let (word, fields) = line.split_at(len_before(b' ', line));
     if is_text(word, "add") {
@@ -81,14 +80,22 @@ pub(crate) fn head_in(alloc: Global, line: &[u8]) -> Result<Head, Refusal>
         tile_in(alloc, Verb::Replace, fields)
     } else if is_text(word, "remove") {
         remove_in(alloc, fields)
+    } else if is_text(word, "attach") {
+        attachment_in(Verb::Add, fields)
+    } else if is_text(word, "reattach") {
+        attachment_in(Verb::Replace, fields)
+    } else if is_text(word, "detach") {
+        detach_in(alloc, fields)
+    } else if is_text(word, "meta") {
+        metadata_in(fields)
     } else if is_text(word, "list") {
-        bare_in(Command::List, fields)
+        bare_in(Plain::List, fields)
     } else if is_text(word, "info") {
-        bare_in(Command::Info, fields)
+        bare_in(Plain::Info, fields)
     } else if is_text(word, "map") {
-        bare_in(Command::Map, fields)
+        bare_in(Plain::Map, fields)
     } else if is_text(word, "check") {
-        bare_in(Command::Check, fields)
+        bare_in(Plain::Check, fields)
     } else if is_later(word) {
         Err(Refusal::Kind(Kind::Later))
     } else {

@@ -3,19 +3,20 @@
 ghost use Rattle.std.specs.Prelude.{◌≡◌, ◌≢◌, ◌+◌, ◌^◌, ◌<◌, ◌≤◌, ℕ, List, [], ◌∷◌, length, is_some, IfOk, IfErr, IfSome, OnOk};
 ghost use Rattle.std.specs.Option.{ForSome};
 ghost use Rattle.czi_rig.specs.Faults.{Counted, fault_at, is_at_input};
-ghost use Rattle.czi_script.specs.Reader.{Reader, IsReader, unused, ahead, FindsThere, Leaves, Counts, TakesFirst, kept, lost, script_device};
+ghost use Rattle.czi_script.specs.Reader.{Reader, IsReader, unused, ahead, FindsThere, Leaves, Counts, TakesCounted, kept, lost, script_device};
 ghost use Rattle.czi_doc.specs.View.{bytes_of};
-ghost use Rattle.czi_script.specs.Script.{payload_len};
-ghost use Rattle.czi_script.specs.View.{head_of, tile_of};
+ghost use Rattle.czi_script.specs.Script.{Brings, payload_len};
+ghost use Rattle.czi_script.specs.View.{head_of, payload_of};
 ghost use Rattle.czi_script.specs.Pieces.{IsFront, AtEnd, Fills, FillStops, Lines, LineStops, UsesLine, RefusesLine, EndsLine, TakesSome, Passed, Interrupted, Contents, FeedStops, Finished, PayloadStops};
 
 use crate::command::Command;
 use crate::error::ScriptError;
 use crate::fields::Refusal;
 use crate::filling::Filling;
-use crate::head::{Head, Tile};
+use crate::head::Head;
 use crate::kind::Kind;
 use crate::lines::{Front, front_of, head_in};
+use crate::payload::{Payload, Piece};
 use crate::window::{SIZE, Window};
 use czi_doc::Bytes;
 use czi_rig::Source;
@@ -255,23 +256,28 @@ impl ScriptReader {
         }
     }
 
-    /// The payload of a subblock's line, as a command. Where a piece is past its limit none is kept.
-    fn contents<S: Source>(&mut self, input: &mut S, tile: Tile) -> Result<Command, ScriptError>
-        ensures ok { IfOk result (Contents self.old self.new (S.input input.old).left (S.input input.new).left (tile_of tile)) }
+    /// The payload of a line, as a command. Where a piece is past its limit none is kept.
+    fn contents<S: Source>(
+        &mut self,
+        input: &mut S,
+        payload: Payload,
+    ) -> Result<Command, ScriptError>
+        ensures ok { IfOk result (Contents self.old self.new (S.input input.old).left (S.input input.new).left (Brings (payload_of payload))) }
         ensures sound { IsReader self.new }
-        ensures stops { IfErr result (Interrupted self.old self.new (S.input input.old).left (S.input input.new).left (payload_len (tile_of tile))) }
+        ensures stops { IfErr result (Interrupted self.old self.new (S.input input.old).left (S.input input.new).left (payload_len (Brings (payload_of payload)))) }
         ensures told { is_some (S.input input.new).left ≡ is_some (S.input input.old).left }
         ensures later { (S.input input.old).faults ≤ (S.input input.new).faults }
         ensures cause { Counted (is_at_input (fault_at script_device result)) (S.input input.old).faults (S.input input.new).faults }
     {
-        if let Some((len, limit)) = tile.past() {
-            self.skip(input, tile.len())?;
+        let pieces = payload.pieces();
+        if let Some(Piece { len, limit }) = pieces.past() {
+            self.skip(input, pieces.len())?;
             return Ok(Command::Long { len, limit });
         }
-        let meta = self.piece(input, tile.meta)?;
-        let pixels = self.piece(input, tile.pixels)?;
-        let tail = self.piece(input, tile.tail)?;
-        Ok(tile.command(meta, pixels, tail))
+        let first = self.piece(input, pieces.first.len)?;
+        let second = self.piece(input, pieces.second.len)?;
+        let third = self.piece(input, pieces.third.len)?;
+        Ok(payload.command(first, second, third))
     }
 
     /// Sees that a byte is held.
@@ -322,9 +328,9 @@ impl ScriptReader {
         ensures cause { Counted (is_at_input (fault_at script_device result)) (S.input input.old).faults (S.input input.new).faults }
     {
         match head {
-            Head::Alone(command) => Ok(command),
-            Head::Tile(tile) => {
-                let command = self.contents(input, tile)?;
+            Head::Alone(plain) => Ok(plain.command()),
+            Head::Brings(payload) => {
+                let command = self.contents(input, payload)?;
                 self.feed(input)?;
                 Ok(command)
             }
@@ -335,7 +341,7 @@ impl ScriptReader {
     fn read<S: Source>(&mut self, input: &mut S) -> Result<Option<Command>, ScriptError>
         ensures finds { ForSome (ahead self.old (S.input input.old).left) (λ bytes. FindsThere self.old bytes result) }
         ensures leaves { Leaves self.old self.new (S.input input.old).left (S.input input.new).left result }
-        ensures takes { TakesFirst self.old self.new (S.input input.old).left (S.input input.new).left (lost result) }
+        ensures takes { TakesCounted self.old self.new (S.input input.old).left (S.input input.new).left (lost result) }
         ensures counts { Counts self.old self.new result }
         ensures sound { IsReader self.new }
         ensures error { self.new.error ≡ self.old.error }
@@ -362,7 +368,7 @@ impl ScriptReader {
     pub fn next<S: Source>(&mut self, input: &mut S) -> Result<Option<Command>, ScriptError>
         ensures finds { self.old.error ≡ None → ForSome (ahead self.old (S.input input.old).left) (λ bytes. FindsThere self.old bytes result) }
         ensures leaves { self.old.error ≡ None → Leaves self.old self.new (S.input input.old).left (S.input input.new).left result }
-        ensures takes { self.old.error ≡ None → TakesFirst self.old self.new (S.input input.old).left (S.input input.new).left (lost result) }
+        ensures takes { self.old.error ≡ None → TakesCounted self.old self.new (S.input input.old).left (S.input input.new).left (lost result) }
         ensures counts { self.old.error ≡ None → Counts self.old self.new result }
         ensures cause { self.old.error ≡ None → Counted (is_at_input (fault_at script_device result)) (S.input input.old).faults (S.input input.new).faults }
         ensures keeps { self.new.error ≡ kept result }

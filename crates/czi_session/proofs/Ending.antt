@@ -22,7 +22,7 @@ use Rattle.czi_session.specs.declared.stop.Ended.TheVariants.{Done, Refused, Sto
 use Rattle.czi_session.specs.Text.{fault_line, last_text}
 use Rattle.czi_session.specs.Course.{AlikeFrom, AtEveryMoment, Model, OnceAlike, OnceDurable, Stands, Open, WhileSaid, WithinStep, OpensToPrefix, ReadsToPrefix, RestsNow, Runs, Sealed, Sealing, Unsealed, Begins, Starts, state_after, replies}
 use Rattle.czi_session.specs.Stops.{EndsAlone, IsFile, end_device}
-use Rattle.czi_session.specs.Ends.{MayBeSealed, Whole, StopsAt, RunStops, TextStops, OneStops, OneEnds, OpeningEnds, EndsSo, Quiet, Answers}
+use Rattle.czi_session.specs.Ends.{MayBeSealed, Whole, StopsAt, RunStops, TextStops, OneStops, OneEnds, OpeningEnds, EndsOpened, Quiet, Answers}
 use Rattle.czi_session.proofs.Course.{prefix_first, reads_between, reads_step, reads_last}
 use Rattle.czi_session.proofs.Spoken.{resting_now, said_known_of, stands_rest}
 
@@ -108,7 +108,7 @@ module _ (m : Model) (state : State) (left : Option (List ℕ)) (start : m.Docum
   sealed (Err stop) old last_left on_old w same said ok may s = subst (λ x. RunStops m (Unsealed m) state left start cs end before all x) (sym s) (inr (w.ends, said ∙ said_known_of m on_old old _ _ w.stands, may _ _ w.stands))
 
   -- a run whose files didn't open
-  pub unopened : (ended : Ended) → OpeningEnds m state start before ended → left ≡ Some all → EndsSo m state left start cs end before all ended
+  pub unopened : (ended : Ended) → OpeningEnds m state start before ended → left ≡ Some all → EndsOpened m state left start cs end before all ended
   unopened Done e same = absurd e
   unopened Refused e same = absurd e
   unopened (Stopped stop) e same = inl (e, same)
@@ -142,7 +142,7 @@ not_fault n kind e = cc
 
 module _ (m : Model) (left : Option (List ℕ)) (start : m.Document) (cs : List Command) (before all : List ℕ) (old new : State) (faults_before faults_now : ℕ) (q : Quiet old new faults_before faults_now) where
   -- where no fault came
-  pub answers : length all ≤ 2 ^ 40 → (ended : Ended) → EndsSo m new left start cs DoneOf before all ended → FaultsWith (end_device ended) old new faults_before faults_now → Answers Done ended
+  pub answers : length all ≤ 2 ^ 40 → (ended : Ended) → EndsOpened m new left start cs DoneOf before all ended → FaultsWith (end_device ended) old new faults_before faults_now → Answers Done ended
   answers few Done e cause = inl refl
   answers few Refused e cause = absurd e
   answers few (Stopped Image) e cause = absurd (q.image cause.rig.image_count)

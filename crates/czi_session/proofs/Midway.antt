@@ -3,7 +3,7 @@ use Rattle.std.proofs.Common.{◌≡◌, inl, inr, ℕ, ◌+◌, ◌-◌, ◌<�
 use Rattle.std.specs.List.{concat}
 use Rattle.std.specs.Option.{ForSome}
 use Rattle.std.specs.Prelude.{◌^◌, option_map}
-use Rattle.std.proofs.lemmas.List.{append-nil, drop-drop, take-append-drop, length-drop, length-take}
+use Rattle.std.proofs.lemmas.List.{append-nil, drop-drop, take-append-drop, length-drop}
 use Rattle.std.proofs.lemmas.Option.{same_Some}
 use Rattle.std.proofs.Math.Seq.{drop-append-add}
 use Rattle.czi_rig.specs.declared.rig.Rig.{Ghosts}
@@ -18,7 +18,7 @@ use Rattle.czi_script.specs.declared.kind.Kind.{Kind}
 use Rattle.czi_script.specs.declared.error.ScriptError.{ScriptError}
 use Rattle.czi_script.specs.declared.error.ScriptError.TheVariants.{Fault as FaultError, Input as InputError, TooLong as TooLongError, Memory as MemoryError}
 use Rattle.czi_script.specs.Script.{Command, End, Reads, Spells, SpellAll, IsUnfinished}
-use Rattle.czi_script.specs.Reader.{Reader, IsReader, ahead, unused, room, FindsError, FindsSome, LeavesSome, LeavesError, CountsError, TakesFirst, lost_by}
+use Rattle.czi_script.specs.Reader.{Reader, IsReader, ahead, unused, room, FindsError, FindsSome, LeavesSome, LeavesError, CountsError, TakesCounted, lost_by}
 use Rattle.czi_script.specs.View.{command_of}
 use Rattle.czi_script.specs.Course.{StopsSo, Midway as InScript}
 use Rattle.czi_script.proofs.Course.{over, stops}
@@ -28,7 +28,7 @@ use Rattle.czi_session.specs.declared.stop.Stop.{Stop}
 use Rattle.czi_session.specs.declared.stop.Stop.TheVariants.{Script, Image, Journal, Output, Input, Memory, TooLong}
 use Rattle.czi_session.specs.Stops.{stop_by}
 use Rattle.czi_session.specs.Course.{Model, Stands, Starts, ReadsToPrefix, RestsNow, Unsealed, WithinStep, state_after, replies}
-use Rattle.czi_session.specs.Ends.{AllDone, Between, EachTaken, Failing, Beyond, Inside, Whole, StepStops, StopsAt, Takes, most_by, most_taken}
+use Rattle.czi_session.specs.Ends.{AllDone, Between, EachTaken, Failing, Beyond, Inside, Whole, StepStops, StopsAt, TakesAtMost, most_by, most_taken}
 use Rattle.czi_session.proofs.Course.{state_more, spoken_more, reads_step}
 use Rattle.czi_session.proofs.Spoken.{stands_rest}
 
@@ -218,7 +218,7 @@ module _ (m : Model) (on : Disk → Disk → m.Document → Type 0) (reader : Re
 abbrev pub TakenSoFar : Option (List ℕ) → Option (List ℕ) → ℕ → Type 0
 TakenSoFar before now n = ForSome before (λ bytes. (n ≤ length bytes) × (now ≡ Some (drop n bytes)))
 
-pub taken_more : (first before after : Option (List ℕ)) (old new : Reader) (more : ℕ) → TakenSoFar first before old.taken → TakesFirst old new before after more → TakenSoFar first after (new.taken + more)
+pub taken_more : (first before after : Option (List ℕ)) (old new : Reader) (more : ℕ) → TakenSoFar first before old.taken → TakesCounted old new before after more → TakenSoFar first after (new.taken + more)
 taken_more first before after old new more so_far t = λ all is.
     let was = so_far all is in
     let n : ℕ = (new.taken - old.taken) + more in
@@ -227,7 +227,7 @@ taken_more first before after old new more so_far t = λ all is.
       t.rest (drop old.taken all) was.1 ∙ ap (λ (x : List ℕ). Some x) (drop-drop ((new.taken - old.taken) + more) old.taken all ∙ ap (λ (x : ℕ). drop x all) k),
     )
 
-pub taken_on : (first before after : Option (List ℕ)) (old new : Reader) → TakenSoFar first before old.taken → TakesFirst old new before after 0 → TakenSoFar first after new.taken
+pub taken_on : (first before after : Option (List ℕ)) (old new : Reader) → TakenSoFar first before old.taken → TakesCounted old new before after 0 → TakenSoFar first after new.taken
 taken_on first before after old new so_far t = subst (λ k. TakenSoFar first after k) (none new.taken) (taken_more first before after old new 0 so_far t)
   where
     none : (n : ℕ) → n + 0 ≡ n
@@ -249,16 +249,16 @@ most_any (Err Input) = omega arith
 most_any (Err Memory) = omega arith
 most_any (Err TooLong) = omega arith
 
-pub takes_more : (before after : Option (List ℕ)) (most more : ℕ) → most ≤ more → Takes before after most → Takes before after more
+pub takes_more : (before after : Option (List ℕ)) (most more : ℕ) → most ≤ more → TakesAtMost before after most → TakesAtMost before after more
 takes_more before after most more le t = record { count = t.count; few = omega (arith, le, t.few); inside = t.inside; rest = t.rest }
 
-taken_by : (before now : Option (List ℕ)) (n most : ℕ) → n ≤ most → TakenSoFar before now n → Takes before now most
+taken_by : (before now : Option (List ℕ)) (n most : ℕ) → n ≤ most → TakenSoFar before now n → TakesAtMost before now most
 taken_by before now n most le t = record { count = n; few = le; inside = λ all is. (t all is).0; rest = λ all is. (t all is).1 }
 
-pub takes_any : (before after : Option (List ℕ)) (reader : Reader) → IsReader reader → TakenSoFar before after reader.taken → (result : Result (Unit {0}) Stop) → Takes before after (most_taken result)
+pub takes_any : (before after : Option (List ℕ)) (reader : Reader) → IsReader reader → TakenSoFar before after reader.taken → (result : Result (Unit {0}) Stop) → TakesAtMost before after (most_taken result)
 takes_any before after reader sound t result = takes_more before after (2 ^ 40) (most_taken result) (most_any result) (taken_by before after reader.taken (2 ^ 40) sound.few t)
 
-pub takes_stopped : (first before after : Option (List ℕ)) (old new : Reader) (error : ScriptError) → IsReader new → TakenSoFar first before old.taken → TakesFirst old new before after (lost_by error) → Takes first after (most_by (stop_by error))
+pub takes_stopped : (first before after : Option (List ℕ)) (old new : Reader) (error : ScriptError) → IsReader new → TakenSoFar first before old.taken → TakesCounted old new before after (lost_by error) → TakesAtMost first after (most_by (stop_by error))
 takes_stopped first before after old new (FaultError n kind) sound so_far t = takes_any first after new sound (taken_on first before after old new so_far t) (Err (Script n kind))
 takes_stopped first before after old new InputError sound so_far t = takes_any first after new sound (taken_on first before after old new so_far t) (Err Input)
 takes_stopped first before after old new MemoryError sound so_far t = takes_any first after new sound (taken_on first before after old new so_far t) (Err Memory)

@@ -21,14 +21,14 @@ use Rattle.czi_session.specs.Text.{fault_line}
 use Rattle.czi_session.specs.Course.{Model, OnlyRecovered, Sealed, Stands, Unsealed, state_after, replies}
 
 -- a pair that opens isn't refused
-abbrev pub OpensSo : OpenStop → Type 0
-OpensSo (RefusedOf text) = ⊥
-OpensSo (StoppedOf stop) = Unit {0}
+abbrev pub IsNoRefusal : OpenStop → Type 0
+IsNoRefusal (RefusedOf text) = ⊥
+IsNoRefusal (StoppedOf stop) = Unit {0}
 
 -- A refusal is that of the pair, and both files are as they were, but for a recovery.
-abbrev pub Refuses : Model → Devices → State → OpenStop → Type 0
-Refuses m all state (RefusedOf text) = m.refuses all.image.seen all.journal.seen text.items × OnlyRecovered m all state
-Refuses m all state (StoppedOf stop) = Unit {0}
+abbrev pub RefusesPair : Model → Devices → State → OpenStop → Type 0
+RefusesPair m all state (RefusedOf text) = m.refuses all.image.seen all.journal.seen text.items × OnlyRecovered m all state
+RefusesPair m all state (StoppedOf stop) = Unit {0}
 
 -- The journal as read isn't sealed, at a state. Or it may be: it says what it said, or is void.
 abbrev pub IsUnsealed : (m : Model) → State → m.Document → Type 0
@@ -149,8 +149,8 @@ OpeningEnds m state s said (Stopped stop) = OpeningSays m state s said stop
 
 -- Where all is known, the pair is one that is refused, what was said is its text, and both files are as they were, but for a
 -- recovery.
-abbrev pub RefusedSo : Model → State → State → Type 0
-RefusedSo m old new = (all : Devices) → devices old ≡ Some all → (text : List ℕ) × m.refuses all.image.seen all.journal.seen text × (new.said ≡ Some (all.said ++ text)) × OnlyRecovered m all new
+abbrev pub EndsRefused : Model → State → State → Type 0
+EndsRefused m old new = (all : Devices) → devices old ≡ Some all → (text : List ℕ) × m.refuses all.image.seen all.journal.seen text × (new.said ≡ Some (all.said ++ text)) × OnlyRecovered m all new
 
 -- How a run over a pair ends that is refused with this text: it was said whole; a front of it, where the output failed; and
 -- nothing, where a file failed or memory was wanting.
@@ -174,10 +174,10 @@ abbrev pub OpeningStops : (m : Model) → State → Option (List ℕ) → m.Docu
 OpeningStops m state left s said all stop = OpeningSays m state s said stop × (left ≡ Some all)
 
 -- A run that could open ends so. At its end the journal is sealed; where it stops before, for no fault of a file, it isn't.
-abbrev pub EndsSo : (m : Model) → State → Option (List ℕ) → m.Document → List Command → End → List ℕ → List ℕ → Ended → Type 0
-EndsSo m state left start cs end before all Done = Whole m (Sealed m) state left start cs end before all
-EndsSo m state left start cs end before all Refused = ⊥
-EndsSo m state left start cs end before all (Stopped stop) = OpeningStops m state left start before all stop ⊎ RunStops m (Unsealed m) state left start cs end before all stop
+abbrev pub EndsOpened : (m : Model) → State → Option (List ℕ) → m.Document → List Command → End → List ℕ → List ℕ → Ended → Type 0
+EndsOpened m state left start cs end before all Done = Whole m (Sealed m) state left start cs end before all
+EndsOpened m state left start cs end before all Refused = ⊥
+EndsOpened m state left start cs end before all (Stopped stop) = OpeningStops m state left start before all stop ⊎ RunStops m (Unsealed m) state left start cs end before all stop
 
 -- no fault came
 pub record Quiet (old new : State) (before now : ℕ) : Type 0 where
@@ -210,7 +210,7 @@ most_of Refused = 0
 most_of (Stopped stop) = most_by stop
 
 -- the first of the bytes that were left were taken, at most so many
-pub record Takes (before after : Option (List ℕ)) (most : ℕ) : Type 0 where
+pub record TakesAtMost (before after : Option (List ℕ)) (most : ℕ) : Type 0 where
   pub count : ℕ
   pub few : count ≤ most
   pub inside : ForSome before (λ bytes. count ≤ length bytes)

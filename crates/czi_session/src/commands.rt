@@ -8,7 +8,7 @@ ghost use Rattle.czi_rig.specs.Spans.{InSpans};
 ghost use Rattle.czi_script.specs.Script.{Command as Cmd, End};
 ghost use Rattle.czi_session.specs.Course.{ReadsToPrefix, Starts, Unsealed};
 ghost use Rattle.czi_session.specs.Stops.{stop_by, stop_device};
-ghost use Rattle.czi_session.specs.Ends.{Whole, StopsAt, Takes, most_taken};
+ghost use Rattle.czi_session.specs.Ends.{Whole, StopsAt, TakesAtMost, most_taken};
 
 use crate::steps::step;
 use crate::{Editor, Stop};
@@ -44,7 +44,7 @@ pub(crate) fn commands<E: Editor, R: Rig, S: Source>(
         MatchResult result (λ _. Whole E.model (E.stands editor.new) (R.state rig.new) (S.input input.new).left s cs end said h.input)
         (λ stop. StopsAt E.model (Unsealed E.model) (R.state rig.new) (S.input input.new).left s cs end said h.input stop) }
     ensures ready { OnOk result (E.ready editor.new (R.state rig.new)) }
-    ensures takes { Takes (S.input input.old).left (S.input input.new).left (most_taken result) }
+    ensures takes { TakesAtMost (S.input input.old).left (S.input input.new).left (most_taken result) }
     ensures goes_on { GoesOn (R.state rig.old) (R.state rig.new) }
     ensures later { (S.input input.old).faults ≤ (S.input input.new).faults }
     ensures cause { FaultsWith (fault_at stop_device result) (R.state rig.old) (R.state rig.new) (S.input input.old).faults (S.input input.new).faults }
@@ -54,7 +54,11 @@ pub(crate) fn commands<E: Editor, R: Rig, S: Source>(
     };
     loop {
         match reader.next(input) {
-            Ok(Some(command)) => step(alloc, editor, rig, &command)?,
+            Ok(Some(command)) => {
+                let done = step(alloc, editor, rig, &command);
+                drop(command);
+                done?;
+            }
             Ok(None) => return Ok(()),
             Err(error) => return Err(stop_by(error)),
         }

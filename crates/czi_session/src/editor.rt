@@ -12,7 +12,7 @@ ghost use Rattle.czi_script.specs.Script.{Command as Cmd};
 ghost use Rattle.czi_script.specs.View.{command_of};
 ghost use Rattle.czi_session.specs.Course.{EitherSide, IsUnrefused, KeepsFiles, Model, OnceAlike, OnceDurable, Open, Opening, Sealed, Sealing, Stands, Unsealed};
 ghost use Rattle.czi_session.specs.Stops.{editor_device, open_device};
-ghost use Rattle.czi_session.specs.Ends.{OpensSo, Refuses};
+ghost use Rattle.czi_session.specs.Ends.{IsNoRefusal, RefusesPair};
 
 use crate::{EditorStop, OpenStop};
 use czi_rig::{Failed, File, Rig};
@@ -41,13 +41,13 @@ pub trait Editor: Drop {
     fn open<R: Rig>(alloc: Global, rig: &mut R) -> Result<Self, OpenStop>
         ensures opens { (said : List ℕ) (s : model.Document) → Opening model (R.state rig.old) said s → MatchResult result
             (λ editor. FromSomeMoment R.Rig rig.old rig.new (Open model s said) × Stands model (stands editor) (R.state rig.new) said s)
-            (λ stop. OpensSo stop × OnceDurable R.Rig rig.old rig.new (Open model s said) (open_device stop)) }
+            (λ stop. IsNoRefusal stop × OnceDurable R.Rig rig.old rig.new (Open model s said) (open_device stop)) }
         // Once it is durable, any two pairs that a crash leaves have the same bytes in each item that both need.
         ensures alike { (said : List ℕ) (s : model.Document) → Opening model (R.state rig.old) said s → OnceAlike R.Rig rig.old rig.new model (fault_at open_device result) }
         ensures journal { seen_of (R.state rig.new) File.Journal ≡ seen_of (R.state rig.old) File.Journal }
         ensures ready { IfOk result (λ editor. ready editor (R.state rig.new)) }
         ensures unrefused { OnOk result (IsUnrefused model (R.state rig.old)) }
-        ensures refused { IfErr result (λ stop. (all : Devices) → devices (R.state rig.old) ≡ Option.Some all → Refuses model all (R.state rig.new) stop) }
+        ensures refused { IfErr result (λ stop. (all : Devices) → devices (R.state rig.old) ≡ Option.Some all → RefusesPair model all (R.state rig.new) stop) }
         ensures kept { IfErr result (λ stop. (all : Devices) (text : List ℕ) → devices (R.state rig.old) ≡ Option.Some all → model.refuses all.image.seen all.journal.seen text → OnceDurable R.Rig rig.old rig.new (KeepsFiles model all) (open_device stop)) }
         ensures said { (R.state rig.new).said ≡ (R.state rig.old).said }
         ensures goes_on { GoesOn (R.state rig.old) (R.state rig.new) }

@@ -10,7 +10,7 @@ ghost use Rattle.czi_rig.specs.Spans.{EachTwo, InSpans};
 ghost use Rattle.czi_script.specs.View.{command_of};
 ghost use Rattle.czi_session.specs.Course.{IsUnrefused, KeepsRefused, OnceAlike, OnceDurable, OnlySays, Open, Opening, Sealed, Sealing, Stands, Unsealed, WhileSaid, WithinStep};
 ghost use Rattle.czi_session.specs.Stops.{EndsOpening, EndsUnopened, IsFile, StopsAlone, end_device, stop_device};
-ghost use Rattle.czi_session.specs.Ends.{MayBeSealed, SaysRefusal, OpeningEnds, RefusedEnds, RefusedSo, StepStops, TextStops};
+ghost use Rattle.czi_session.specs.Ends.{MayBeSealed, SaysRefusal, OpeningEnds, RefusedEnds, EndsRefused, StepStops, TextStops};
 ghost use Rattle.czi_session.specs.Text.{fault_line};
 
 use crate::stop::stop_of;
@@ -43,7 +43,7 @@ pub(crate) fn opened<E: Editor, R: Rig>(alloc: Global, rig: &mut R) -> Result<E,
     ensures alike { (said : List ℕ) (s : E.model.Document) → Opening E.model (R.state rig.old) said s → OnceAlike R.Rig rig.old rig.new E.model (fault_at end_device result) }
     ensures ready { IfOk result (λ editor. E.ready editor (R.state rig.new)) }
     ensures unrefused { OnOk result (IsUnrefused E.model (R.state rig.old)) }
-    ensures refused { IfErr result (λ ended. ended ≡ Ended.Refused → RefusedSo E.model (R.state rig.old) (R.state rig.new)) }
+    ensures refused { IfErr result (λ ended. ended ≡ Ended.Refused → EndsRefused E.model (R.state rig.old) (R.state rig.new)) }
     ensures kept { IfErr result (λ ended. KeepsRefused R.Rig rig.old rig.new E.model (end_device ended)) }
     ensures refusal { IfErr result (RefusedEnds E.model (R.state rig.old) (R.state rig.new)) }
     ensures unopened { IfErr result EndsUnopened }

@@ -12,7 +12,7 @@ ghost use Rattle.czi_script.specs.View.{command_of};
 ghost use Rattle.czi_session.specs.Course.{AtEveryMoment, Begins, IsUnrefused, KeepsRefused, OnceAlike, OnceDurable, OnlyReads, Opening, OpensToPrefix, ReadsToPrefix, RepliesOnly, Sealed, Stands, Starts, Unsealed};
 ghost use Rattle.czi_session.specs.Text.{last_text};
 ghost use Rattle.czi_session.specs.Stops.{EndsAlone, EndsOpening, EndsUnopened, IsFile, StopsAlone, end_device, stop_device};
-ghost use Rattle.czi_session.specs.Ends.{Answers, EndsSo, OneEnds, OneStops, OpeningEnds, Quiet, RefusedEnds, RefusedSo, RunStops, Takes, Whole, most_of, most_taken};
+ghost use Rattle.czi_session.specs.Ends.{Answers, EndsOpened, OneEnds, OneStops, OpeningEnds, Quiet, RefusedEnds, EndsRefused, RunStops, TakesAtMost, Whole, most_of, most_taken};
 
 use crate::commands::commands;
 use crate::steps::{opened, say_fault, sealed, step};
@@ -37,7 +37,7 @@ fn script<E: Editor, R: Rig, S: Source>(
         MatchResult result (λ _. Whole E.model (Sealed E.model) (R.state rig.new) (S.input input.new).left s cs end said h.input)
         (λ stop. RunStops E.model (Unsealed E.model) (R.state rig.new) (S.input input.new).left s cs end said h.input stop) }
     ensures void { OnOk result (ForSome (seen_of (R.state rig.new) File.Journal) E.model.void) }
-    ensures takes { Takes (S.input input.old).left (S.input input.new).left (most_taken result) }
+    ensures takes { TakesAtMost (S.input input.old).left (S.input input.new).left (most_taken result) }
     ensures goes_on { GoesOn (R.state rig.old) (R.state rig.new) }
     ensures later { (S.input input.old).faults ≤ (S.input input.new).faults }
     ensures cause { FaultsWith (fault_at stop_device result) (R.state rig.old) (R.state rig.new) (S.input input.old).faults (S.input input.new).faults }
@@ -88,12 +88,12 @@ fn edit_all<E: Editor, R: Rig, S: Source>(alloc: Global, rig: &mut R, input: &mu
     ensures alike { (cs : List Cmd) (end : End) (said : List ℕ) (s : E.model.Document) → Begins E.model (S.input input.old).left (R.state rig.old) cs end said s →
         OnceAlike R.Rig rig.old rig.new E.model (end_device result) }
     ensures ends { (cs : List Cmd) (end : End) (said : List ℕ) (s : E.model.Document) → (h : Begins E.model (S.input input.old).left (R.state rig.old) cs end said s) →
-        EndsSo E.model (R.state rig.new) (S.input input.new).left s cs end said h.input result }
+        EndsOpened E.model (R.state rig.new) (S.input input.new).left s cs end said h.input result }
     ensures void { result ≡ Ended.Done → ForSome (seen_of (R.state rig.new) File.Journal) E.model.void }
-    ensures refused { result ≡ Ended.Refused → RefusedSo E.model (R.state rig.old) (R.state rig.new) }
+    ensures refused { result ≡ Ended.Refused → EndsRefused E.model (R.state rig.old) (R.state rig.new) }
     ensures kept { KeepsRefused R.Rig rig.old rig.new E.model (end_device result) }
     ensures refuses { IsUnrefused E.model (R.state rig.old) ⊎ (EndsUnopened result × RefusedEnds E.model (R.state rig.old) (R.state rig.new) result × (input.new ≡ input.old)) }
-    ensures takes { Takes (S.input input.old).left (S.input input.new).left (most_of result) }
+    ensures takes { TakesAtMost (S.input input.old).left (S.input input.new).left (most_of result) }
     ensures goes_on { GoesOn (R.state rig.old) (R.state rig.new) }
     ensures later { (S.input input.old).faults ≤ (S.input input.new).faults }
     ensures cause { FaultsWith (end_device result) (R.state rig.old) (R.state rig.new) (S.input input.old).faults (S.input input.new).faults }
@@ -114,7 +114,7 @@ fn one_alone<E: Editor, R: Rig>(alloc: Global, rig: &mut R, command: &Command) -
     ensures alike { (said : List ℕ) (s : E.model.Document) → Opening E.model (R.state rig.old) said s → OnceAlike R.Rig rig.old rig.new E.model (end_device result) }
     ensures ends { (said : List ℕ) (s : E.model.Document) → Opening E.model (R.state rig.old) said s → OneEnds E.model (R.state rig.new) s (command_of command.now) said result }
     ensures void { result ≡ Ended.Done → ForSome (seen_of (R.state rig.new) File.Journal) E.model.void }
-    ensures refused { result ≡ Ended.Refused → RefusedSo E.model (R.state rig.old) (R.state rig.new) }
+    ensures refused { result ≡ Ended.Refused → EndsRefused E.model (R.state rig.old) (R.state rig.new) }
     ensures kept { KeepsRefused R.Rig rig.old rig.new E.model (end_device result) }
     ensures refuses { IsUnrefused E.model (R.state rig.old) ⊎ (EndsUnopened result × RefusedEnds E.model (R.state rig.old) (R.state rig.new) result) }
     // Where the command changes nothing, both files are left alone from the opening to the reply.
@@ -152,14 +152,14 @@ pub fn edit<E: Editor, R: Rig, S: Source>(alloc: Global, rig: &mut R, input: &mu
         OnceAlike R.Rig rig.old rig.new E.model (end_device result) }
     // What stands at the end, what was said, and what was taken of the input.
     ensures ends { (cs : List Cmd) (end : End) (said : List ℕ) (s : E.model.Document) → (h : Begins E.model (S.input input.old).left (R.state rig.old) cs end said s) →
-        EndsSo E.model (R.state rig.new) (S.input input.new).left s cs end said h.input result }
+        EndsOpened E.model (R.state rig.new) (S.input input.new).left s cs end said h.input result }
     ensures void { result ≡ Ended.Done → ForSome (seen_of (R.state rig.new) File.Journal) E.model.void }
-    ensures refused { result ≡ Ended.Refused → RefusedSo E.model (R.state rig.old) (R.state rig.new) }
+    ensures refused { result ≡ Ended.Refused → EndsRefused E.model (R.state rig.old) (R.state rig.new) }
     // A pair that is refused: nothing is said but the text that says why, or a front of it; nothing is taken; and the files are kept.
     ensures refusal { RefusedEnds E.model (R.state rig.old) (R.state rig.new) result }
     ensures untaken { (all : Devices) (text : List ℕ) → devices (R.state rig.old) ≡ Option.Some all → E.model.refuses all.image.seen all.journal.seen text → input.new ≡ input.old }
     ensures kept { KeepsRefused R.Rig rig.old rig.new E.model (end_device result) }
-    ensures takes { Takes (S.input input.old).left (S.input input.new).left (most_of result) }
+    ensures takes { TakesAtMost (S.input input.old).left (S.input input.new).left (most_of result) }
     ensures goes_on { GoesOn (R.state rig.old) (R.state rig.new) }
     ensures later { (S.input input.old).faults ≤ (S.input input.new).faults }
     ensures cause { FaultsWith (end_device result) (R.state rig.old) (R.state rig.new) (S.input input.old).faults (S.input input.new).faults }
@@ -182,7 +182,7 @@ pub fn one<E: Editor, R: Rig>(alloc: Global, rig: &mut R, command: &Command) -> 
     ensures alike { (said : List ℕ) (s : E.model.Document) → Opening E.model (R.state rig.old) said s → OnceAlike R.Rig rig.old rig.new E.model (end_device result) }
     ensures ends { (said : List ℕ) (s : E.model.Document) → Opening E.model (R.state rig.old) said s → OneEnds E.model (R.state rig.new) s (command_of command.now) said result }
     ensures void { result ≡ Ended.Done → ForSome (seen_of (R.state rig.new) File.Journal) E.model.void }
-    ensures refused { result ≡ Ended.Refused → RefusedSo E.model (R.state rig.old) (R.state rig.new) }
+    ensures refused { result ≡ Ended.Refused → EndsRefused E.model (R.state rig.old) (R.state rig.new) }
     ensures refusal { RefusedEnds E.model (R.state rig.old) (R.state rig.new) result }
     ensures kept { KeepsRefused R.Rig rig.old rig.new E.model (end_device result) }
     ensures goes_on { GoesOn (R.state rig.old) (R.state rig.new) }

@@ -24,78 +24,6 @@ loop-command-init g c = record {
   no_fault = record { rig = no_faults _; input_count = refl };
 }
 
-pub loop-command-preserved-in_ok-step-in-Ok-Some : goal.loop-command-preserved-in_ok-step-in-Ok-Some
-loop-command-preserved-in_ok-step-in-Ok-Some g c =
-    let m = g.E.Editor.model in
-    let inv = c.loop-command.invariant in
-    let on = g.E.Editor.stands c.loop-command.editor in
-    let left = (g.S.Source.input c.loop-command.input).left in
-    let leaves = rw c.in-Ok-Some.field-0-is at (c.in-Ok-Some.ensures.leaves inv.none) in
-    let count = rw c.in-Ok-Some.field-0-is at (c.in-Ok-Some.ensures.counts inv.none) in
-    record {
-      midway = λ cs end said s h. midway_next m on c.loop-command.reader left (g.R.Rig.state c.loop-command.rig) s cs end said h.input (inv.midway cs end said s h) c.in-Ok-Some.command c.next.new.self _ leaves
-          (g.E.Editor.stands c.step.new.editor) (g.R.Rig.state c.step.new.rig) count c.in_ok-step-in-Ok-Some.ensures.ok;
-      moments = λ cs end said s h last. moments_next m on c.loop-command.reader left (g.R.Rig.state c.loop-command.rig) s cs end said h.input (inv.midway cs end said s h) c.in-Ok-Some.command c.next.new.self _ leaves
-          g.met.E.Editor.says_something g.R.Rig c.args.rig.now c.loop-command.rig c.step.new.rig last (inv.moments cs end said s h last) c.step.ensures.moments;
-      alike = λ cs end said s h. alike_next m on c.loop-command.reader left (g.R.Rig.state c.loop-command.rig) s cs end said h.input (inv.midway cs end said s h) c.in-Ok-Some.command c.next.new.self _ leaves
-          g.R.Rig c.args.rig.now c.loop-command.rig c.step.new.rig (inv.alike cs end said s h) c.step.ensures.alike;
-      taken = taken_on _ left _ c.loop-command.reader c.next.new.self inv.taken (c.in-Ok-Some.ensures.takes inv.none);
-      sound = c.next.ensures.sound;
-      none = c.in-Ok-Some.ensures.keeps;
-      ready = c.in_ok-step-in-Ok-Some.ensures.ready;
-      goes_on = goes_then _ _ _ inv.goes_on c.step.ensures.goes_on;
-      later = omega (arith, inv.later, c.next.ensures.later);
-      no_fault = with_then _ _ _ _ _ _ _ inv.no_fault (record { rig = c.in_ok-step-in-Ok-Some.ensures.cause; input_count = c.in-Ok-Some.ensures.cause inv.none });
-    }
-
-pub loop-command-preserved-in_ok-step-in-Ok-Some-2 : goal.loop-command-preserved-in_ok-step-in-Ok-Some-2
-loop-command-preserved-in_ok-step-in-Ok-Some-2 g c =
-    let m = g.E.Editor.model in
-    let inv = c.loop-command.invariant in
-    let on = g.E.Editor.stands c.loop-command.editor in
-    let left = (g.S.Source.input c.loop-command.input).left in
-    let leaves = rw c.in-Ok-Some.field-0-is at (c.in-Ok-Some.ensures.leaves inv.none) in
-    let count = rw c.in-Ok-Some.field-0-is at (c.in-Ok-Some.ensures.counts inv.none) in
-    record {
-      midway = λ cs end said s h. midway_next m on c.loop-command.reader left (g.R.Rig.state c.loop-command.rig) s cs end said h.input (inv.midway cs end said s h) c.in-Ok-Some.command c.next.new.self _ leaves
-          (g.E.Editor.stands c.step.new.editor) (g.R.Rig.state c.step.new.rig) count c.in_ok-step-in-Ok-Some.ensures.ok;
-      moments = λ cs end said s h last. moments_next m on c.loop-command.reader left (g.R.Rig.state c.loop-command.rig) s cs end said h.input (inv.midway cs end said s h) c.in-Ok-Some.command c.next.new.self _ leaves
-          g.met.E.Editor.says_something g.R.Rig c.args.rig.now c.loop-command.rig c.step.new.rig last (inv.moments cs end said s h last) c.step.ensures.moments;
-      alike = λ cs end said s h. alike_next m on c.loop-command.reader left (g.R.Rig.state c.loop-command.rig) s cs end said h.input (inv.midway cs end said s h) c.in-Ok-Some.command c.next.new.self _ leaves
-          g.R.Rig c.args.rig.now c.loop-command.rig c.step.new.rig (inv.alike cs end said s h) c.step.ensures.alike;
-      taken = taken_on _ left _ c.loop-command.reader c.next.new.self inv.taken (c.in-Ok-Some.ensures.takes inv.none);
-      sound = c.next.ensures.sound;
-      none = c.in-Ok-Some.ensures.keeps;
-      ready = c.in_ok-step-in-Ok-Some.ensures.ready;
-      goes_on = goes_then _ _ _ inv.goes_on c.step.ensures.goes_on;
-      later = omega (arith, inv.later, c.next.ensures.later);
-      no_fault = with_then _ _ _ _ _ _ _ inv.no_fault (record { rig = c.in_ok-step-in-Ok-Some.ensures.cause; input_count = c.in-Ok-Some.ensures.cause inv.none });
-    }
-
-pub loop-command-preserved-in_ok-step-in-Ok-Some-3 : goal.loop-command-preserved-in_ok-step-in-Ok-Some-3
-loop-command-preserved-in_ok-step-in-Ok-Some-3 g c =
-    let m = g.E.Editor.model in
-    let inv = c.loop-command.invariant in
-    let on = g.E.Editor.stands c.loop-command.editor in
-    let left = (g.S.Source.input c.loop-command.input).left in
-    let leaves = rw c.in-Ok-Some.field-0-is at (c.in-Ok-Some.ensures.leaves inv.none) in
-    let count = rw c.in-Ok-Some.field-0-is at (c.in-Ok-Some.ensures.counts inv.none) in
-    record {
-      midway = λ cs end said s h. midway_next m on c.loop-command.reader left (g.R.Rig.state c.loop-command.rig) s cs end said h.input (inv.midway cs end said s h) c.in-Ok-Some.command c.next.new.self _ leaves
-          (g.E.Editor.stands c.step.new.editor) (g.R.Rig.state c.step.new.rig) count c.in_ok-step-in-Ok-Some.ensures.ok;
-      moments = λ cs end said s h last. moments_next m on c.loop-command.reader left (g.R.Rig.state c.loop-command.rig) s cs end said h.input (inv.midway cs end said s h) c.in-Ok-Some.command c.next.new.self _ leaves
-          g.met.E.Editor.says_something g.R.Rig c.args.rig.now c.loop-command.rig c.step.new.rig last (inv.moments cs end said s h last) c.step.ensures.moments;
-      alike = λ cs end said s h. alike_next m on c.loop-command.reader left (g.R.Rig.state c.loop-command.rig) s cs end said h.input (inv.midway cs end said s h) c.in-Ok-Some.command c.next.new.self _ leaves
-          g.R.Rig c.args.rig.now c.loop-command.rig c.step.new.rig (inv.alike cs end said s h) c.step.ensures.alike;
-      taken = taken_on _ left _ c.loop-command.reader c.next.new.self inv.taken (c.in-Ok-Some.ensures.takes inv.none);
-      sound = c.next.ensures.sound;
-      none = c.in-Ok-Some.ensures.keeps;
-      ready = c.in_ok-step-in-Ok-Some.ensures.ready;
-      goes_on = goes_then _ _ _ inv.goes_on c.step.ensures.goes_on;
-      later = omega (arith, inv.later, c.next.ensures.later);
-      no_fault = with_then _ _ _ _ _ _ _ inv.no_fault (record { rig = c.in_ok-step-in-Ok-Some.ensures.cause; input_count = c.in-Ok-Some.ensures.cause inv.none });
-    }
-
 pub loop-command-preserved : goal.loop-command-preserved
 loop-command-preserved g c =
     let m = g.E.Editor.model in
@@ -106,46 +34,46 @@ loop-command-preserved g c =
     let count = rw c.in-Ok-Some.field-0-is at (c.in-Ok-Some.ensures.counts inv.none) in
     record {
       midway = λ cs end said s h. midway_next m on c.loop-command.reader left (g.R.Rig.state c.loop-command.rig) s cs end said h.input (inv.midway cs end said s h) c.in-Ok-Some.command c.next.new.self _ leaves
-          (g.E.Editor.stands c.step.new.editor) (g.R.Rig.state c.step.new.rig) count c.in_ok-step-in-Ok-Some.ensures.ok;
+          (g.E.Editor.stands c.step-done.new.editor) (g.R.Rig.state c.step-done.new.rig) count c.in_ok-done-in-Ok-Some.ensures.ok;
       moments = λ cs end said s h last. moments_next m on c.loop-command.reader left (g.R.Rig.state c.loop-command.rig) s cs end said h.input (inv.midway cs end said s h) c.in-Ok-Some.command c.next.new.self _ leaves
-          g.met.E.Editor.says_something g.R.Rig c.args.rig.now c.loop-command.rig c.step.new.rig last (inv.moments cs end said s h last) c.step.ensures.moments;
+          g.met.E.Editor.says_something g.R.Rig c.args.rig.now c.loop-command.rig c.step-done.new.rig last (inv.moments cs end said s h last) c.step-done.ensures.moments;
       alike = λ cs end said s h. alike_next m on c.loop-command.reader left (g.R.Rig.state c.loop-command.rig) s cs end said h.input (inv.midway cs end said s h) c.in-Ok-Some.command c.next.new.self _ leaves
-          g.R.Rig c.args.rig.now c.loop-command.rig c.step.new.rig (inv.alike cs end said s h) c.step.ensures.alike;
+          g.R.Rig c.args.rig.now c.loop-command.rig c.step-done.new.rig (inv.alike cs end said s h) c.step-done.ensures.alike;
       taken = taken_on _ left _ c.loop-command.reader c.next.new.self inv.taken (c.in-Ok-Some.ensures.takes inv.none);
       sound = c.next.ensures.sound;
       none = c.in-Ok-Some.ensures.keeps;
-      ready = c.in_ok-step-in-Ok-Some.ensures.ready;
-      goes_on = goes_then _ _ _ inv.goes_on c.step.ensures.goes_on;
+      ready = c.in_ok-done-in-Ok-Some.ensures.ready;
+      goes_on = goes_then _ _ _ inv.goes_on c.step-done.ensures.goes_on;
       later = omega (arith, inv.later, c.next.ensures.later);
-      no_fault = with_then _ _ _ _ _ _ _ inv.no_fault (record { rig = c.in_ok-step-in-Ok-Some.ensures.cause; input_count = c.in-Ok-Some.ensures.cause inv.none });
+      no_fault = with_then _ _ _ _ _ _ _ inv.no_fault (record { rig = c.in_ok-done-in-Ok-Some.ensures.cause; input_count = c.in-Ok-Some.ensures.cause inv.none });
     }
 
-pub returns-in_err-step-in-Ok-Some-clause-moments : goal.returns-in_err-step-in-Ok-Some-clause-moments
-returns-in_err-step-in-Ok-Some-clause-moments g c = λ cs end said s h last.
+pub returns-in_err-done-in-Ok-Some-clause-moments : goal.returns-in_err-done-in-Ok-Some-clause-moments
+returns-in_err-done-in-Ok-Some-clause-moments g c = λ cs end said s h last.
     let m = g.E.Editor.model in
     let inv = c.loop-command.invariant in
     let on = g.E.Editor.stands c.loop-command.editor in
     let left = (g.S.Source.input c.loop-command.input).left in
     let leaves = rw c.in-Ok-Some.field-0-is at (c.in-Ok-Some.ensures.leaves inv.none) in
     moments_next m on c.loop-command.reader left (g.R.Rig.state c.loop-command.rig) s cs end said h.input (inv.midway cs end said s h) c.in-Ok-Some.command c.next.new.self _ leaves
-    g.met.E.Editor.says_something g.R.Rig c.args.rig.now c.loop-command.rig c.step.new.rig last (inv.moments cs end said s h last) c.step.ensures.moments
+    g.met.E.Editor.says_something g.R.Rig c.args.rig.now c.loop-command.rig c.step-done.new.rig last (inv.moments cs end said s h last) c.step-done.ensures.moments
 
-pub returns-in_err-step-in-Ok-Some-clause-alike : goal.returns-in_err-step-in-Ok-Some-clause-alike
-returns-in_err-step-in-Ok-Some-clause-alike g c = λ cs end said s h.
+pub returns-in_err-done-in-Ok-Some-clause-alike : goal.returns-in_err-done-in-Ok-Some-clause-alike
+returns-in_err-done-in-Ok-Some-clause-alike g c = λ cs end said s h.
     let m = g.E.Editor.model in
     let inv = c.loop-command.invariant in
     let on = g.E.Editor.stands c.loop-command.editor in
     let left = (g.S.Source.input c.loop-command.input).left in
     let leaves = rw c.in-Ok-Some.field-0-is at (c.in-Ok-Some.ensures.leaves inv.none) in
     alike_next m on c.loop-command.reader left (g.R.Rig.state c.loop-command.rig) s cs end said h.input (inv.midway cs end said s h) c.in-Ok-Some.command c.next.new.self _ leaves
-    g.R.Rig c.args.rig.now c.loop-command.rig c.step.new.rig (inv.alike cs end said s h) c.step.ensures.alike
+    g.R.Rig c.args.rig.now c.loop-command.rig c.step-done.new.rig (inv.alike cs end said s h) c.step-done.ensures.alike
 
 pub returns-in_default-clause-alike : goal.returns-in_default-clause-alike
 returns-in_default-clause-alike g c = λ cs end said s h. one_span g.R.Rig g.E.Editor.model.alike c.args.rig.now c.args.rig.now
     (resting_alike g.R.Rig g.met.R.Rig.only_now g.E.Editor.model (g.E.Editor.stands c.args.editor.now) (g.met.E.Editor.rests_now c.args.editor.now) s said c.args.rig.now h.stands)
 
-pub returns-in_err-step-in-Ok-Some-clause-ends : goal.returns-in_err-step-in-Ok-Some-clause-ends
-returns-in_err-step-in-Ok-Some-clause-ends g c = λ cs end said s h.
+pub returns-in_err-done-in-Ok-Some-clause-ends : goal.returns-in_err-done-in-Ok-Some-clause-ends
+returns-in_err-done-in-Ok-Some-clause-ends g c = λ cs end said s h.
     let p = err_from_is_err_and c.from_residual.result c.from_residual.ensures.1 in
     let m = g.E.Editor.model in
     let inv = c.loop-command.invariant in
@@ -153,17 +81,17 @@ returns-in_err-step-in-Ok-Some-clause-ends g c = λ cs end said s h.
     let left = (g.S.Source.input c.loop-command.input).left in
     let leaves = rw c.in-Ok-Some.field-0-is at (c.in-Ok-Some.ensures.leaves inv.none) in
     rw (p.1, p.2) (step_stops m on c.loop-command.reader left (g.R.Rig.state c.loop-command.rig) s cs end said h.input (inv.midway cs end said s h) c.in-Ok-Some.command c.next.new.self _ leaves
-    (g.R.Rig.state c.step.new.rig) (g.S.Source.input c.next.new.input).left _ c.in_err-step-in-Ok-Some.ensures.stops)
+    (g.R.Rig.state c.step-done.new.rig) (g.S.Source.input c.next.new.input).left _ c.in_err-done-in-Ok-Some.ensures.stops)
 
-pub returns-in_err-step-in-Ok-Some-clause-takes : goal.returns-in_err-step-in-Ok-Some-clause-takes
-returns-in_err-step-in-Ok-Some-clause-takes g c =
+pub returns-in_err-done-in-Ok-Some-clause-takes : goal.returns-in_err-done-in-Ok-Some-clause-takes
+returns-in_err-done-in-Ok-Some-clause-takes g c =
     let inv = c.loop-command.invariant in
     takes_any _ _ c.next.new.self c.next.ensures.sound (taken_on _ (g.S.Source.input c.loop-command.input).left _ c.loop-command.reader c.next.new.self inv.taken (c.in-Ok-Some.ensures.takes inv.none)) c.from_residual.result
 
-pub returns-in_err-step-in-Ok-Some-clause-cause : goal.returns-in_err-step-in-Ok-Some-clause-cause
-returns-in_err-step-in-Ok-Some-clause-cause g c =
+pub returns-in_err-done-in-Ok-Some-clause-cause : goal.returns-in_err-done-in-Ok-Some-clause-cause
+returns-in_err-done-in-Ok-Some-clause-cause g c =
     let p = err_from_is_err_and c.from_residual.result c.from_residual.ensures.1 in
-    rw (p.1, p.2) (stopped_then _ _ _ _ _ _ _ c.loop-command.invariant.no_fault (c.in-Ok-Some.ensures.cause c.loop-command.invariant.none) c.in_err-step-in-Ok-Some.ensures.alone c.in_err-step-in-Ok-Some.ensures.cause)
+    rw (p.1, p.2) (stopped_then _ _ _ _ _ _ _ c.loop-command.invariant.no_fault (c.in-Ok-Some.ensures.cause c.loop-command.invariant.none) c.in_err-done-in-Ok-Some.ensures.alone c.in_err-done-in-Ok-Some.ensures.cause)
 
 pub returns-in-Ok-None-clause-cause : goal.returns-in-Ok-None-clause-cause
 returns-in-Ok-None-clause-cause g c =

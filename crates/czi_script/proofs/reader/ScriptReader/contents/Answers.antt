@@ -1,37 +1,44 @@
-use Rattle.std.proofs.Common.{◌≡◌, ◌+◌, length, arith}
+use Rattle.std.proofs.Common.{◌≡◌, ◌+◌, None, length, arith}
 use Rattle.std.proofs.lemmas.Result.{err_from_is_err_and}
 use Rattle.czi_doc.specs.View.{bytes_of}
-use Rattle.czi_script.specs.View.{tile_of}
+use Rattle.czi_script.specs.Script.{Brings, payload_len}
+use Rattle.czi_script.specs.View.{payload_of}
 use Rattle.czi_script.proofs.Passing.{interrupted_then}
-use Rattle.czi_script.proofs.Payloads.{three_pieces}
+use Rattle.czi_script.proofs.Payloads.{in_turn, len_is, past_is}
 use Rattle.czi_script.proofs.reader.ScriptReader.contents.Goals as goal
 
-pub returns-in_err-pixels-clause-stops : goal.returns-in_err-pixels-clause-stops
-returns-in_err-pixels-clause-stops g c =
-    let p = err_from_is_err_and c.from_residual-in_err-pixels.result c.from_residual-in_err-pixels.ensures.1 in
-    let first = c.in_ok-meta.ensures.ok in
-    let meta : length (bytes_of c.in_ok-meta.meta) ≡ c.args.tile.meta = first.1 in
-    rw (p.1, p.2) (interrupted_then c.args.self.now c.piece.new.self c.piece-2.new.self _ _ _ (bytes_of c.in_ok-meta.meta) c.args.tile.pixels (c.args.tile.meta + (c.args.tile.pixels + (c.args.tile.tail + 0))) c.in_err-pixels.field-0.0
-    first.0 c.in_err-pixels.ensures.stops (omega (arith, meta)))
+pub returns-in_err-second-clause-stops : goal.returns-in_err-second-clause-stops
+returns-in_err-second-clause-stops g c =
+    let p = err_from_is_err_and c.from_residual-in_err-second.result c.from_residual-in_err-second.ensures.1 in
+    let sizes = c.pieces-pieces.result in
+    let all = len_is (payload_of c.args.payload) sizes c.pieces-pieces.ensures in
+    let one = c.in_ok-first.ensures.ok in
+    let first : length (bytes_of c.in_ok-first.first) ≡ sizes.first.len = one.1 in
+    rw (p.1, p.2) (interrupted_then c.args.self.now c.piece.new.self c.piece-2.new.self _ _ _ (bytes_of c.in_ok-first.first) sizes.second.len (payload_len (Brings (payload_of c.args.payload))) c.in_err-second.field-0.0
+    one.0 c.in_err-second.ensures.stops (omega (arith, first, all)))
 
-pub returns-in_err-tail-clause-stops : goal.returns-in_err-tail-clause-stops
-returns-in_err-tail-clause-stops g c =
-    let p = err_from_is_err_and c.from_residual-in_err-tail.result c.from_residual-in_err-tail.ensures.1 in
-    let first = c.in_ok-meta.ensures.ok in
-    let second = c.in_ok-pixels.ensures.ok in
-    let meta : length (bytes_of c.in_ok-meta.meta) ≡ c.args.tile.meta = first.1 in
-    let pixels : length (bytes_of c.in_ok-pixels.pixels) ≡ c.args.tile.pixels = second.1 in
-    rw (p.1, p.2) (interrupted_then c.args.self.now c.piece.new.self c.piece-3.new.self _ _ _ (bytes_of c.in_ok-meta.meta) (c.args.tile.pixels + c.args.tile.tail) (c.args.tile.meta + (c.args.tile.pixels + (c.args.tile.tail + 0))) c.in_err-tail.field-0.0
-    first.0 (interrupted_then c.piece.new.self c.piece-2.new.self c.piece-3.new.self _ _ _ (bytes_of c.in_ok-pixels.pixels) c.args.tile.tail (c.args.tile.pixels + c.args.tile.tail) c.in_err-tail.field-0.0
-    second.0 c.in_err-tail.ensures.stops (omega (arith, pixels))) (omega (arith, meta)))
+pub returns-in_err-third-clause-stops : goal.returns-in_err-third-clause-stops
+returns-in_err-third-clause-stops g c =
+    let p = err_from_is_err_and c.from_residual-in_err-third.result c.from_residual-in_err-third.ensures.1 in
+    let sizes = c.pieces-pieces.result in
+    let all = len_is (payload_of c.args.payload) sizes c.pieces-pieces.ensures in
+    let one = c.in_ok-first.ensures.ok in
+    let two = c.in_ok-second.ensures.ok in
+    let first : length (bytes_of c.in_ok-first.first) ≡ sizes.first.len = one.1 in
+    let second : length (bytes_of c.in_ok-second.second) ≡ sizes.second.len = two.1 in
+    rw (p.1, p.2) (interrupted_then c.args.self.now c.piece.new.self c.piece-3.new.self _ _ _ (bytes_of c.in_ok-first.first) (sizes.second.len + sizes.third.len) (payload_len (Brings (payload_of c.args.payload))) c.in_err-third.field-0.0
+    one.0 (interrupted_then c.piece.new.self c.piece-2.new.self c.piece-3.new.self _ _ _ (bytes_of c.in_ok-second.second) sizes.third.len (sizes.second.len + sizes.third.len) c.in_err-third.field-0.0
+    two.0 c.in_err-third.ensures.stops (omega (arith, second))) (omega (arith, first, all)))
 
 pub returns-clause-ok : goal.returns-clause-ok
 returns-clause-ok g c =
-    let first = c.in_ok-meta.ensures.ok in
-    let second = c.in_ok-pixels.ensures.ok in
-    let third = c.in_ok-tail.ensures.ok in
-    let meta : length (bytes_of c.in_ok-meta.meta) ≡ c.args.tile.meta = first.1 in
-    let pixels : length (bytes_of c.in_ok-pixels.pixels) ≡ c.args.tile.pixels = second.1 in
-    let tail : length (bytes_of c.in_ok-tail.tail) ≡ c.args.tile.tail = third.1 in
-    three_pieces (tile_of c.args.tile) c.args.self.now c.piece.new.self c.piece-2.new.self c.piece-3.new.self _ _ _ _ (bytes_of c.in_ok-meta.meta) (bytes_of c.in_ok-pixels.pixels) (bytes_of c.in_ok-tail.tail) c.command.result
-    first.0 second.0 third.0 (omega (arith, meta, pixels, tail)) c.in_default.ensures c.command.ensures
+    let sizes = c.pieces-pieces.result in
+    let all = len_is (payload_of c.args.payload) sizes c.pieces-pieces.ensures in
+    let one = c.in_ok-first.ensures.ok in
+    let two = c.in_ok-second.ensures.ok in
+    let three = c.in_ok-third.ensures.ok in
+    let first : length (bytes_of c.in_ok-first.first) ≡ sizes.first.len = one.1 in
+    let second : length (bytes_of c.in_ok-second.second) ≡ sizes.second.len = two.1 in
+    let third : length (bytes_of c.in_ok-third.third) ≡ sizes.third.len = three.1 in
+    in_turn (Brings (payload_of c.args.payload)) c.args.self.now c.piece.new.self c.piece-2.new.self c.piece-3.new.self _ _ _ _ (bytes_of c.in_ok-first.first) (bytes_of c.in_ok-second.second) (bytes_of c.in_ok-third.third) c.command.result
+    one.0 two.0 three.0 (omega (arith, first, second, third, all)) (past_is (payload_of c.args.payload) sizes c.pieces-pieces.ensures None c.in_default.ensures) c.command.ensures

@@ -1,6 +1,6 @@
 use Rattle.std.proofs.Common.{sym, subst, Some}
 use Rattle.std.proofs.lemmas.Result.{err_from_is_err_and}
-use Rattle.czi_script.specs.Reader.{Reader, TakesFirst, LeavesSome, ahead}
+use Rattle.czi_script.specs.Reader.{Reader, TakesCounted, LeavesSome, ahead}
 use Rattle.czi_script.specs.View.{head_of}
 use Rattle.czi_script.proofs.Shown.{at_payload, finds_stopped, leaves_stopped, takes_stopped, finds_refused, leaves_refused, whole_command, takes_command, finds_payload, leaves_payload, takes_payload, counted, takes_counted}
 use Rattle.czi_script.proofs.reader.ScriptReader.read.Goals as goal
@@ -72,4 +72,4 @@ returns-clause-takes g c =
     let lines = rw c.in-Some.is at c.in_ok-len.ensures.lines in
     let at = at_payload c.in_ok-head.head c.args.self.now c.line.new.self c.head.new.self _ _ c.in-Some.len c.line.ensures.sound c.head.ensures.sound lines c.in_ok-head.ensures.ok in
     let t = takes_command c.args.self.now c.head.new.self _ _ _ (head_of c.in_ok-head.head) at c.command.new.self _ c.in_ok-command.command c.command.ensures.sound c.in_ok-command.ensures.ok in
-    subst (λ (r : Reader). TakesFirst c.args.self.now (counted r) (g.S.Source.input c.args.input.now).left (g.S.Source.input c.command.new.input).left 0) (sym c.self.view_is) (takes_counted _ _ _ _ t)
+    subst (λ (r : Reader). TakesCounted c.args.self.now (counted r) (g.S.Source.input c.args.input.now).left (g.S.Source.input c.command.new.input).left 0) (sym c.self.view_is) (takes_counted _ _ _ _ t)

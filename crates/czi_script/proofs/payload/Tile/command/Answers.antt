@@ -1,6 +1,6 @@
 use Rattle.czi_doc.specs.View.{bytes_of}
 use Rattle.czi_script.proofs.Values.{first_part, second_part, last_part}
-use Rattle.czi_script.proofs.head.Tile.command.Goals as goal
+use Rattle.czi_script.proofs.payload.Tile.command.Goals as goal
 
 pub returns-in-Add : goal.returns-in-Add
 returns-in-Add c =
