@@ -23,7 +23,7 @@ use Rattle.czi_rig.proofs.Runs.{weaker}
 use Rattle.czi_rig.proofs.Spans.{each_two, one_span}
 use Rattle.czi_vault.specs.Recovered.{Recovered}
 use Rattle.czi_session.specs.Course.{AlikeFrom, IsUnrefused, KeepsFiles, OnceAlike, OnceDurable, OnlyRecovered, Open, Opening, Stands}
-use Rattle.czi_session.specs.Ends.{OpensSo, Refuses}
+use Rattle.czi_session.specs.Ends.{IsNoRefusal, RefusesPair}
 use Rattle.czi_session.specs.Stops.{IsFile}
 use Rattle.czi_session.specs.declared.stop.OpenStop.{OpenStop}
 use Rattle.czi_session.specs.declared.stop.OpenStop.TheVariants.{Refused, Stopped}
@@ -92,7 +92,7 @@ module _ {D : Type 0} (rig : Ghosts D) (old new : D) (said : List ℕ) (b : Begu
 opened : (image journal : List ℕ) (b : Begun) → Begins image journal b → Opens image journal b.state.document
 opened image journal b is = record { bytes = b.start.bytes; recovered = is.recovered; shows = (is.fresh.live, is.fresh.reaches, is.fresh.document); idle = is.whole }
 
-pub opens_so : (error : OpenError) (stop : OpenStop) (state : State) (image journal : List ℕ) (b : Begun) → Tells error stop → TellsOf image journal state error → Begins image journal b → OpensSo stop
+pub opens_so : (error : OpenError) (stop : OpenStop) (state : State) (image journal : List ℕ) (b : Begun) → Tells error stop → TellsOf image journal state error → Begins image journal b → IsNoRefusal stop
 opens_so error (Refused text) state image journal b tells cause is =
     not_both image journal b.state.document tells.0 (opened image journal b is) (if_some (cause_of error) tells.0 (λ (c : Cause). IsRefusedBy image journal c × Leaves image journal state c) tells.1 cause).0
 opens_so error (Stopped stop) state image journal b tells cause is = tt
@@ -108,7 +108,7 @@ only_recovered all state (too_short have need) synced = synced_only all all.imag
 only_recovered all state (of_another record_guid image_guid) synced = synced_only all all.image.seen state synced (inl refl)
 only_recovered all state (unread refusal) r = synced_only all r.bytes state r.synced (inr r.recovered)
 
-pub refuses : (error : OpenError) (stop : OpenStop) (state : State) (all : Devices) → Tells error stop → TellsOf all.image.seen all.journal.seen state error → Refuses the_machine all state stop
+pub refuses : (error : OpenError) (stop : OpenStop) (state : State) (all : Devices) → Tells error stop → TellsOf all.image.seen all.journal.seen state error → RefusesPair the_machine all state stop
 refuses error (Refused text) state all tells cause =
     let both = if_some (cause_of error) tells.0 (λ (c : Cause). IsRefusedBy all.image.seen all.journal.seen c × Leaves all.image.seen all.journal.seen state c) tells.1 cause in
     (record { cause = tells.0; refused = both.0; text_is = tells.2 }, only_recovered all state tells.0 both.1)

@@ -19,7 +19,7 @@ use Rattle.czi_report.specs.Refusals.{cause_text}
 use Rattle.czi_report.specs.Replies.{no_line, ok_line}
 use Rattle.czi_report.specs.States.{list_of, info_of}
 use Rattle.czi_report.specs.Text.{check_text, items_text, map_text, text_line}
-use Rattle.czi_script.specs.Script.{Command, Add, Replace, Remove, Listing, Info, Map, Check, Past}
+use Rattle.czi_script.specs.Script.{Command, Add, Replace, Remove, Attach, Reattach, Detach, SetMeta, Listing, Info, Map, Check, Past}
 use Rattle.czi_opening.proofs.Verdict.{one_cause}
 use Rattle.czi_engine.specs.declared.engine.Engine.{Engine}
 use Rattle.czi_engine.specs.Editing.{ShowsAlone}
@@ -98,6 +98,10 @@ unfolding TellsSome list_of info_of map_text check_text items_text text_line
 tells_some (Add info meta pixels tail) = tt
 tells_some (Replace info meta pixels tail) = tt
 tells_some (Remove dims) = tt
+tells_some (Attach info bytes) = tt
+tells_some (Reattach info bytes) = tt
+tells_some (Detach name) = tt
+tells_some (SetMeta xml tail) = tt
 tells_some Listing = λ s. zero-lt-suc _
 tells_some Info = λ s. zero-lt-suc _
 tells_some Map = λ s. zero-lt-suc _

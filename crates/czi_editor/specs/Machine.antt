@@ -6,7 +6,7 @@ use Rattle.czi_format.specs.Live.{Live, update_pending}
 use Rattle.czi_journal.specs.Journals.{Counts, slot_of}
 use Rattle.czi_links.specs.Reading.{Void}
 use Rattle.czi_machine.specs.State.{State as MachineState}
-use Rattle.czi_opening.specs.Course.{StandsAs}
+use Rattle.czi_opening.specs.Course.{StandsForTheSame}
 use Rattle.czi_opening.specs.Opens.{Cause, IsRefusedBy, Opens}
 use Rattle.czi_rig.specs.Disk.{Disk, Everywhere, IsAtRest}
 use Rattle.czi_rig.specs.State.{State}
@@ -70,7 +70,7 @@ the_machine = record {
   recovers = Recovered;
   alike = Alike;
   refuses = IsRefused;
-  keeps = StandsAs;
+  keeps = StandsForTheSame;
   holds = HoldsAt;
   void = λ journal. slot_of journal ≡ Void;
   after = λ b c. record { start = origin_then b.start b.state c; journal = b.journal; state = after b.state c };

@@ -2,12 +2,12 @@
 use Rattle.std.specs.Prelude.{◌≡◌, ℕ, List, Result, Ok, Err}
 use Rattle.czi_engine.specs.Editing.{origin_after, state_after}
 use Rattle.czi_engine.specs.Standing.{Origin}
-use Rattle.czi_machine.specs.Edit.{Edit, Refusal, add, remove, replace, too_long}
+use Rattle.czi_machine.specs.Edit.{Edit, Refusal, add, attach, detach, reattach, remove, replace, set_meta, too_long}
 use Rattle.czi_machine.specs.Machine.{after_edit}
 use Rattle.czi_machine.specs.State.{State}
 use Rattle.czi_report.specs.Replies.{no_line, ok_line}
 use Rattle.czi_report.specs.States.{list_of, info_of, map_of, check_of}
-use Rattle.czi_script.specs.Script.{Command, Add, Replace, Remove, Listing, Info, Map, Check, Past}
+use Rattle.czi_script.specs.Script.{Command, Add, Replace, Remove, Attach, Reattach, Detach, SetMeta, Listing, Info, Map, Check, Past}
 
 -- What a command asks of the machine: an edit, or to be told something of the state.
 pub data Asked : Type 0 where
@@ -18,6 +18,10 @@ abbrev pub asked : Command → Asked
 asked (Add info meta pixels tail) = edits (add (record { info = info; meta = meta; pixels = pixels; tail = tail }))
 asked (Replace info meta pixels tail) = edits (replace (record { info = info; meta = meta; pixels = pixels; tail = tail }))
 asked (Remove dims) = edits (remove dims)
+asked (Attach info bytes) = edits (attach (record { info = info; bytes = bytes }))
+asked (Reattach info bytes) = edits (reattach (record { info = info; bytes = bytes }))
+asked (Detach name) = edits (detach name)
+asked (SetMeta xml tail) = edits (set_meta (record { xml = xml; tail = tail }))
 asked Listing = tells (λ s. list_of s.document s.layout)
 asked Info = tells (λ s. info_of s.document s.layout)
 asked Map = tells map_of

@@ -1,7 +1,7 @@
 //! The engine as an editor of a session.
 
 ghost use Rattle.std.specs.Prelude.{◌≡◌, ◌++◌, IfErr, OnOk};
-ghost use Rattle.czi_doc.specs.View.{bytes_of, dims_of, info_of};
+ghost use Rattle.czi_doc.specs.View.{att_of, bytes_of, dims_of, info_of};
 ghost use Rattle.czi_format.specs.Live.{Live};
 ghost use Rattle.czi_format.specs.Layout.{Layout};
 ghost use Rattle.czi_image.specs.Holds.{Holds, LiesAs};
@@ -9,7 +9,7 @@ ghost use Rattle.czi_machine.specs.Edit.{too_long};
 ghost use Rattle.czi_report.specs.Replies.{no_line};
 ghost use Rattle.czi_report.specs.States.{check_of};
 ghost use Rattle.czi_report.specs.Text.{info_text, list_text, map_text};
-ghost use Rattle.czi_script.specs.Script.{Add, Remove, Replace};
+ghost use Rattle.czi_script.specs.Script.{Add, Attach, Detach, Reattach, Remove, Replace, SetMeta};
 ghost use Rattle.czi_space.specs.State.{space_of};
 ghost use Rattle.czi_editor.specs.Laws.{begins_unsealed_of, each_says, refused_once_of, rests_now_of, stays_ready_of};
 ghost use Rattle.czi_editor.specs.Machine.{AtState, IsReady, the_machine};
@@ -17,7 +17,7 @@ ghost use Rattle.czi_editor.specs.Performs.{Performs};
 
 use crate::refusal::stop_of;
 use crate::reply::{push_answer, take_room};
-use czi_doc::{Bytes, Dims, EntryInfo};
+use czi_doc::{AttInfo, Bytes, Dims, EntryInfo};
 use czi_engine::Engine;
 use czi_report::{check, info, list, map, push_no_long};
 use czi_rig::{Failed, Rig};
@@ -91,6 +91,69 @@ fn remove<R: Rig>(
 {
     take_room(reply)?;
     let answer = engine.remove(rig, dims);
+    push_answer(answer, reply)
+}
+
+/// Adds an attachment, and appends the reply.
+fn attach<R: Rig>(
+    engine: &mut Engine,
+    rig: &mut R,
+    info: &AttInfo,
+    bytes: &Bytes,
+    reply: &mut Vec<u8>,
+) -> Result<(), EditorStop>
+    requires ready { IsReady engine.old (R.state rig.old) }
+    ensures { Performs R.Rig (Attach (att_of info.now) (bytes_of bytes.now)) rig.old rig.new engine.old engine.new reply.old.items reply.new.items result }
+{
+    take_room(reply)?;
+    let answer = engine.attach(rig, info, bytes.as_slice());
+    push_answer(answer, reply)
+}
+
+/// Puts an attachment into the place of the one with its name, and appends the reply.
+fn reattach<R: Rig>(
+    engine: &mut Engine,
+    rig: &mut R,
+    info: &AttInfo,
+    bytes: &Bytes,
+    reply: &mut Vec<u8>,
+) -> Result<(), EditorStop>
+    requires ready { IsReady engine.old (R.state rig.old) }
+    ensures { Performs R.Rig (Reattach (att_of info.now) (bytes_of bytes.now)) rig.old rig.new engine.old engine.new reply.old.items reply.new.items result }
+{
+    take_room(reply)?;
+    let answer = engine.reattach(rig, info, bytes.as_slice());
+    push_answer(answer, reply)
+}
+
+/// Detaches the attachment with this name, and appends the reply.
+fn detach<R: Rig>(
+    engine: &mut Engine,
+    rig: &mut R,
+    name: &Bytes,
+    reply: &mut Vec<u8>,
+) -> Result<(), EditorStop>
+    requires ready { IsReady engine.old (R.state rig.old) }
+    ensures { Performs R.Rig (Detach (bytes_of name.now)) rig.old rig.new engine.old engine.new reply.old.items reply.new.items result }
+{
+    take_room(reply)?;
+    let answer = engine.detach(rig, name.as_slice());
+    push_answer(answer, reply)
+}
+
+/// Sets the metadata, and appends the reply.
+fn set_meta<R: Rig>(
+    engine: &mut Engine,
+    rig: &mut R,
+    xml: &Bytes,
+    tail: &Bytes,
+    reply: &mut Vec<u8>,
+) -> Result<(), EditorStop>
+    requires ready { IsReady engine.old (R.state rig.old) }
+    ensures { Performs R.Rig (SetMeta (bytes_of xml.now) (bytes_of tail.now)) rig.old rig.new engine.old engine.new reply.old.items reply.new.items result }
+{
+    take_room(reply)?;
+    let answer = engine.set_meta(rig, xml.as_slice(), tail.as_slice());
     push_answer(answer, reply)
 }
 
@@ -193,6 +256,12 @@ impl Editor for ImageEditor {
                 tail,
             } => replace(&mut self.engine, rig, info, meta, pixels, tail, reply),
             Command::Remove { dims } => remove(&mut self.engine, rig, dims, reply),
+            Command::Attach { info, bytes } => attach(&mut self.engine, rig, info, bytes, reply),
+            Command::Reattach { info, bytes } => {
+                reattach(&mut self.engine, rig, info, bytes, reply)
+            }
+            Command::Detach { name } => detach(&mut self.engine, rig, name, reply),
+            Command::SetMeta { xml, tail } => set_meta(&mut self.engine, rig, xml, tail, reply),
             Command::List => push_list(&self.engine, reply),
             Command::Info => push_info(&self.engine, reply),
             Command::Map => push_map(&self.engine, reply),

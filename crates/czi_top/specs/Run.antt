@@ -6,7 +6,7 @@ use Rattle.czi_rig.specs.Faults.{Device, image, journal, output, input}
 use Rattle.czi_rig.specs.Moments.{Devices, devices}
 use Rattle.czi_script.specs.Script.{Command as Step, End, Done as Finished, Reads}
 use Rattle.czi_session.specs.Course.{OnlyReads, Opening}
-use Rattle.czi_session.specs.Ends.{EndsSo, OneEnds, OpeningEnds, Takes, most_of}
+use Rattle.czi_session.specs.Ends.{EndsOpened, OneEnds, OpeningEnds, TakesAtMost, most_of}
 use Rattle.czi_session.specs.Stops.{EndsAlone}
 use Rattle.czi_session.specs.declared.stop.Ended.{Ended}
 use Rattle.czi_session.specs.declared.stop.Ended.TheVariants.{Done, Refused, Stopped}
@@ -39,7 +39,7 @@ code_of (Stopped TooLong) = 9
 -- What stands and was said where a run ends that began at a state: `left` is what the input had left, `now` what it has left.
 abbrev pub EndsAt : Command → State → (left now : Option (List ℕ)) → Begun → List ℕ → Ended → Type 0
 EndsAt (query q) state left now b said ended = OneEnds the_machine state b (step q) said ended
-EndsAt edit state left now b said ended = (cs : List Step) (end : End) (input : List ℕ) → left ≡ Some input → Reads 1 input cs end → EndsSo the_machine state now b cs end said input ended
+EndsAt edit state left now b said ended = (cs : List Step) (end : End) (input : List ℕ) → left ≡ Some input → Reads 1 input cs end → EndsOpened the_machine state now b cs end said input ended
 
 -- a query ends in no fault of a script or the input
 abbrev pub IsAlone : Command → Ended → Type 0
@@ -54,14 +54,14 @@ pub record EndsWith (command : Command) (old new : State) (left now : Option (Li
   pub at : (said : List ℕ) (b : Begun) → Opening the_machine old said b → EndsAt command new left now b said ended
 
 -- what is taken of the input: nothing but by `edit`
-abbrev pub TakesFor : Command → (left now : Option (List ℕ)) → Ended → Type 0
-TakesFor (query q) left now ended = now ≡ left
-TakesFor edit left now ended = Takes left now (most_of ended)
+abbrev pub TakesByEnd : Command → (left now : Option (List ℕ)) → Ended → Type 0
+TakesByEnd (query q) left now ended = now ≡ left
+TakesByEnd edit left now ended = TakesAtMost left now (most_of ended)
 
 -- the same, told by the status
-abbrev pub Took : Command → (left now : Option (List ℕ)) → ℕ → Type 0
-Took (query q) left now status = now ≡ left
-Took edit left now status = (ended : Ended) × (status ≡ code_of ended) × Takes left now (most_of ended)
+abbrev pub TakesByStatus : Command → (left now : Option (List ℕ)) → ℕ → Type 0
+TakesByStatus (query q) left now status = now ≡ left
+TakesByStatus edit left now status = (ended : Ended) × (status ≡ code_of ended) × TakesAtMost left now (most_of ended)
 
 -- the script is one that ends well, and not too long
 abbrev pub EndsWell : Command → Option (List ℕ) → Type 0

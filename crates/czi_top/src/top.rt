@@ -11,13 +11,13 @@ ghost use Rattle.czi_rig.specs.Moments.{devices, Throughout, LeavesSaying};
 ghost use Rattle.czi_script.specs.Script.{Command as Line, End};
 ghost use Rattle.czi_script.specs.View.{command_of as line_of};
 ghost use Rattle.czi_session.specs.Course.{AtEveryMoment, KeepsRefused, OnceAlike, Opening};
-ghost use Rattle.czi_session.specs.Ends.{Answers, Quiet, RefusedEnds, RefusedSo};
+ghost use Rattle.czi_session.specs.Ends.{Answers, Quiet, RefusedEnds, EndsRefused};
 ghost use Rattle.czi_session.specs.Stops.{EndsOpening, IsFile, end_device};
 ghost use Rattle.czi_session.specs.Text.{last_text};
 ghost use Rattle.czi_editor.specs.Machine.{Begun, the_machine};
 ghost use Rattle.czi_top.specs.Words.{command_of, step};
 ghost use Rattle.czi_top.specs.View.{command_view, query_view};
-ghost use Rattle.czi_top.specs.Run.{Asks, EndsAt, EndsWell, EndsWith, IsAlone, Looks, LooksWith, MayBeUnopened, RefusedWith, SaysLine, SaysUsage, TakesFor, Took, code_of, status_device, usage};
+ghost use Rattle.czi_top.specs.Run.{Asks, EndsAt, EndsWell, EndsWith, IsAlone, Looks, LooksWith, MayBeUnopened, RefusedWith, SaysLine, SaysUsage, TakesByEnd, TakesByStatus, code_of, status_device, usage};
 
 use crate::words::{Command, Query, command_of};
 use czi_editor::ImageEditor;
@@ -62,7 +62,7 @@ fn obey<R: Rig, S: Source>(alloc: Global, command: Command, rig: &mut R, input: 
         OnceAlike R.Rig rig.old rig.new the_machine (end_device result) }
     ensures ends { (said : List ℕ) (b : Begun) → Opening the_machine (R.state rig.old) said b → EndsAt (command_view command) (R.state rig.new) (S.input input.old).left (S.input input.new).left b said result }
     ensures void { result ≡ Ended.Done → ForSome (seen_of (R.state rig.new) File.Journal) (λ journal. slot_of journal ≡ Void) }
-    ensures refused { result ≡ Ended.Refused → RefusedSo the_machine (R.state rig.old) (R.state rig.new) }
+    ensures refused { result ≡ Ended.Refused → EndsRefused the_machine (R.state rig.old) (R.state rig.new) }
     ensures refusal { RefusedEnds the_machine (R.state rig.old) (R.state rig.new) result }
     ensures untaken { (text : List ℕ) → RefusedWith (R.state rig.old) text → input.new ≡ input.old }
     ensures kept { KeepsRefused R.Rig rig.old rig.new the_machine (end_device result) }
@@ -71,7 +71,7 @@ fn obey<R: Rig, S: Source>(alloc: Global, command: Command, rig: &mut R, input: 
         Quiet (R.state rig.old) (R.state rig.new) (S.input input.old).faults (S.input input.new).faults → Answers Ended.Done result }
     ensures refuses { (text : List ℕ) → RefusedWith (R.state rig.old) text → Quiet (R.state rig.old) (R.state rig.new) (S.input input.old).faults (S.input input.new).faults → Answers Ended.Refused result }
     ensures alone { IsAlone (command_view command) result }
-    ensures takes { TakesFor (command_view command) (S.input input.old).left (S.input input.new).left result }
+    ensures takes { TakesByEnd (command_view command) (S.input input.old).left (S.input input.new).left result }
     ensures goes_on { GoesOn (R.state rig.old) (R.state rig.new) }
     ensures cause { FaultsWith (end_device result) (R.state rig.old) (R.state rig.new) (S.input input.old).faults (S.input input.new).faults }
 {
@@ -137,11 +137,11 @@ pub fn run<R: Rig, S: Source>(alloc: Global, words: &[String], rig: &mut R, inpu
     ensures ends { ForSome (command_of (map (λ s. string_bytes s) words.now)) (λ command.
         EndsWith command (R.state rig.old) (R.state rig.new) (S.input input.old).left (S.input input.new).left result) }
     ensures void { result ≡ 0 → ForSome (seen_of (R.state rig.new) File.Journal) (λ journal. slot_of journal ≡ Void) }
-    ensures takes { ForSome (command_of (map (λ s. string_bytes s) words.now)) (λ command. Took command (S.input input.old).left (S.input input.new).left result) }
+    ensures takes { ForSome (command_of (map (λ s. string_bytes s) words.now)) (λ command. TakesByStatus command (S.input input.old).left (S.input input.new).left result) }
 
     // A refusal is told exactly where there is one, but for a fault or want of memory. Both files are then as they were, but that
     // the image may be the recovered one.
-    ensures refused { result ≡ 2 → RefusedSo the_machine (R.state rig.old) (R.state rig.new) }
+    ensures refused { result ≡ 2 → EndsRefused the_machine (R.state rig.old) (R.state rig.new) }
     ensures refuses { ForSome (command_of (map (λ s. string_bytes s) words.now)) (λ _. (text : List ℕ) → RefusedWith (R.state rig.old) text →
         Quiet (R.state rig.old) (R.state rig.new) (S.input input.old).faults (S.input input.new).faults → (result ≡ 2) ⊎ (result ≡ 8)) }
     // Files that are refused: the line that says why is said whole, with 2; a front of it, where the output fails, with 6; and

@@ -34,6 +34,42 @@ returns-in-Remove-clause-ok g c = rw c.in-Remove.is (performed_ok c.remove.ensur
 pub returns-in-Remove-clause-still : goal.returns-in-Remove-clause-still
 returns-in-Remove-clause-still g c = rw c.in-Remove.is c.remove.ensures.still
 
+pub returns-in-Attach-clause-moments : goal.returns-in-Attach-clause-moments
+returns-in-Attach-clause-moments g c = rw c.in-Attach.is c.attach.ensures.moments
+
+pub returns-in-Attach-clause-ok : goal.returns-in-Attach-clause-ok
+returns-in-Attach-clause-ok g c = rw c.in-Attach.is (performed_ok c.attach.ensures)
+
+pub returns-in-Attach-clause-still : goal.returns-in-Attach-clause-still
+returns-in-Attach-clause-still g c = rw c.in-Attach.is c.attach.ensures.still
+
+pub returns-in-Reattach-clause-moments : goal.returns-in-Reattach-clause-moments
+returns-in-Reattach-clause-moments g c = rw c.in-Reattach.is c.reattach.ensures.moments
+
+pub returns-in-Reattach-clause-ok : goal.returns-in-Reattach-clause-ok
+returns-in-Reattach-clause-ok g c = rw c.in-Reattach.is (performed_ok c.reattach.ensures)
+
+pub returns-in-Reattach-clause-still : goal.returns-in-Reattach-clause-still
+returns-in-Reattach-clause-still g c = rw c.in-Reattach.is c.reattach.ensures.still
+
+pub returns-in-Detach-clause-moments : goal.returns-in-Detach-clause-moments
+returns-in-Detach-clause-moments g c = rw c.in-Detach.is c.detach.ensures.moments
+
+pub returns-in-Detach-clause-ok : goal.returns-in-Detach-clause-ok
+returns-in-Detach-clause-ok g c = rw c.in-Detach.is (performed_ok c.detach.ensures)
+
+pub returns-in-Detach-clause-still : goal.returns-in-Detach-clause-still
+returns-in-Detach-clause-still g c = rw c.in-Detach.is c.detach.ensures.still
+
+pub returns-in-SetMeta-clause-moments : goal.returns-in-SetMeta-clause-moments
+returns-in-SetMeta-clause-moments g c = rw c.in-SetMeta.is c.set_meta.ensures.moments
+
+pub returns-in-SetMeta-clause-ok : goal.returns-in-SetMeta-clause-ok
+returns-in-SetMeta-clause-ok g c = rw c.in-SetMeta.is (performed_ok c.set_meta.ensures)
+
+pub returns-in-SetMeta-clause-still : goal.returns-in-SetMeta-clause-still
+returns-in-SetMeta-clause-still g c = rw c.in-SetMeta.is c.set_meta.ensures.still
+
 pub returns-in-List-clause-ok : goal.returns-in-List-clause-ok
 returns-in-List-clause-ok g c = rw c.in-List.is (on_ok_weaker c.push_list.result (λ says said b h. (
   says h.stands.live h.stands.has.holds ∙ ap (λ (z : List ℕ). c.args.reply.now.items ++ z) (lists_state h.now.image.seen h.stands.live b.state h.stands.has.stands.lies),
