@@ -9,11 +9,12 @@ ghost use Rattle.czi_commit.specs.Made.{Fits, IsStaged, step_of};
 
 use crate::files::Part;
 use czi_commit::carry_out;
-use czi_journal::{Journal, SLOT_LEN, Slot};
-use czi_links::{Links, SlotHead};
+use czi_journal::{Journal, Slot};
+use czi_links::{Links, SLOT_LEN, SlotHead};
 use czi_plan::EditPlan;
 use czi_region::Region;
 use czi_rig::{File, MemRig, Rig};
+use czi_sample::places::*;
 use std::alloc::Global;
 use std::process::Abort;
 use std::test::Fail;
@@ -127,19 +128,19 @@ fn check_bytes(rt: &impl Abort, content: &[u8], parts: &[Part]) {
 
 // Armed with A, then B was written and selected.
 static ONE_IMAGE: [Part; 5] = [
-    (100, b"\0"),
+    (UPDATE_PENDING, b"\0"),
     (112, b"ab"),
     (127, b"\x01"),
     (128, &[0; 32]),
     (160, b"new"),
 ];
 
-static ONE_JOURNAL: [Part; 2] = [(0, b"\x5a\x01"), (262228, b"\xa3\0")];
+static ONE_JOURNAL: [Part; 2] = [(0, b"\x5a\x01"), (SLOT_B + RECORD_LENGTH, b"\xa3\0")];
 
 // Then A was.
 static TWO_IMAGE: [Part; 2] = [(112, b"cd"), (160, b"newer")];
 
-static TWO_JOURNAL: [Part; 2] = [(0, b"\x5a\0"), (84, b"\xa5\0")];
+static TWO_JOURNAL: [Part; 2] = [(0, b"\x5a\0"), (SLOT_A + RECORD_LENGTH, b"\xa5\0")];
 
 fn check_files(rt: &impl Abort, rig: &MemRig, len: usize, image: &[Part], journal: &[Part]) {
     assert!(rt; rig.content(File::Image).len() == len);

@@ -1,41 +1,33 @@
 //! `czi_journal`: which record a journal holds.
 
-use crate::files::{Part, file_of};
+use crate::files::Part;
 use czi_journal::{Journal, JournalFault, Slot, probe};
 use czi_links::{Links, SlotHead};
 use czi_rig::MemRig;
-use std::alloc::Global;
+use czi_sample::places::*;
+use czi_sample::{GUID, Link, changed, journal_of};
+use std::alloc::{AllocError, Global};
 use std::process::Abort;
 use std::test::Fail;
 
 const HEAD: SlotHead = SlotHead {
-    guid: [7; 16],
+    guid: GUID,
     length: 1280,
 };
 
-// Bytes of a journal.
-const LEN: usize = 524352;
-
-// An armed journal whose slot B is selected and has a record of four links, 184 bytes.
-static FOUR_LINKS: [Part; 17] = [
-    (0, &[0x5a, 1]),
-    (262208, &[1]),
-    (262212, &[7; 16]),
-    (262228, &[0, 5]),
-    (262236, &[4]),
-    (262240, &[84]),
-    (262248, &[8]),
-    (262252, &[0x41; 8]),
-    (262260, &[0x20, 2]),
-    (262268, &[32]),
-    (262272, &[0x42; 32]),
-    (262304, &[0xc0, 2]),
-    (262312, &[32]),
-    (262316, &[0x43; 32]),
-    (262348, &[0, 4]),
-    (262356, &[32]),
-    (262360, &[0x44; 32]),
+// The links of a record of 184 bytes.
+static FOUR_LINKS: [Link; 4] = [
+    (84, &[0x41; 8]),
+    (544, &[0x42; 32]),
+    (704, &[0x43; 32]),
+    (1024, &[0x44; 32]),
 ];
+
+// An armed journal whose slot B is selected and has this record, with changes.
+fn four_links(alloc: Global, changes: &[Part]) -> Result<Vec<u8>, AllocError> {
+    let journal = journal_of(alloc, HEAD.length, &FOUR_LINKS)?;
+    changed(alloc, &journal, journal.len(), changes)
+}
 
 #[test]
 fn short_journal_is_void(rt: HostRuntime) -> Result<(), Fail> {
@@ -47,7 +39,7 @@ fn short_journal_is_void(rt: HostRuntime) -> Result<(), Fail> {
 
 #[test]
 fn selected_slot_is_read(rt: HostRuntime) -> Result<(), Fail> {
-    let journal = file_of(&rt, rt.alloc(), LEN, &FOUR_LINKS, &[])?;
+    let journal = four_links(rt.alloc(), &[])?;
     let mut rig = MemRig::new(rt.alloc(), b"", &journal)?;
     let mut links = Links::new(rt.alloc());
     let stands = Journal {
@@ -66,13 +58,22 @@ static BROKEN: [(Part, Option<JournalFault>); 7] = [
     // another mark
     ((0, &[0x59]), None),
     // slot A, which holds no record
-    ((1, &[0]), Some(JournalFault::Version(0))),
-    ((1, &[2]), Some(JournalFault::Version(0))),
+    ((SELECTOR_BYTE, &[0]), Some(JournalFault::Version(0))),
+    ((SELECTOR_BYTE, &[2]), Some(JournalFault::Version(0))),
     // slot B: version, committed length, a fifth link of no bytes, a link over the GUIDs
-    ((262208, &[9]), Some(JournalFault::Version(9))),
-    ((262235, &[0x80]), Some(JournalFault::BadRecord(262228))),
-    ((262236, &[5]), Some(JournalFault::BadRecord(262392))),
-    ((262240, &[83]), Some(JournalFault::BadRecord(262240))),
+    ((SLOT_B, &[9]), Some(JournalFault::Version(9))),
+    (
+        (SLOT_B + RECORD_LENGTH + 7, &[0x80]),
+        Some(JournalFault::BadRecord(262228)),
+    ),
+    (
+        (SLOT_B + RECORD_COUNT, &[5]),
+        Some(JournalFault::BadRecord(262392)),
+    ),
+    (
+        (SLOT_B + RECORD_LINKS, &[83]),
+        Some(JournalFault::BadRecord(262240)),
+    ),
 ];
 
 fn check_broken(
@@ -81,7 +82,7 @@ fn check_broken(
     change: Part,
     want: Option<JournalFault>,
 ) -> Result<(), Fail> {
-    let journal = file_of(rt, alloc, LEN, &FOUR_LINKS, &[change])?;
+    let journal = four_links(alloc, &[change])?;
     let mut rig = MemRig::new(alloc, b"", &journal)?;
     let mut links = Links::new(alloc);
     match probe(alloc, &mut rig, &mut links) {

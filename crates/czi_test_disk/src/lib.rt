@@ -5,6 +5,8 @@
 #[cfg(test)]
 mod commit;
 #[cfg(test)]
+mod creation;
+#[cfg(test)]
 mod files;
 #[cfg(test)]
 mod journal;

@@ -6,52 +6,46 @@ ghost use Rattle.czi_rig.specs.Disk.{Everywhere};
 ghost use Rattle.czi_rig.specs.State.{known};
 ghost use Rattle.czi_opening.specs.Answers.{IsJournal};
 
-use crate::files::{PICKS, Part, file_of};
+use crate::files::{PICKS, Part};
 use czi_journal::{Journal, Slot};
 use czi_opening::{ImageRefusal, OpenError, close, open};
 use czi_rig::{Call, File, MemRig, Rig};
-use std::alloc::Global;
+use czi_sample::places::*;
+use czi_sample::{EMPTY, GUID, Link, changed, image_of, journal_of, put};
+use std::alloc::{AllocError, Global};
 use std::process::Abort;
 use std::test::Fail;
 
-// An image whose directory stands at 544, with no pointer to it.
-static IMAGE: [Part; 7] = [
-    (0, b"ZISRAWFILE"),
-    (16, &[0, 2]),
-    (24, &[0, 2]),
-    (64, &[7; 16]),
-    (544, b"ZISRAWDIRECTORY"),
-    (560, &[128]),
-    (568, &[128]),
-];
+// The pointer to the directory of the document without subblocks.
+static LINKS: [Link; 1] = [(DIRECTORY_POSITION as u64, &[0x20, 2])];
 
-// A journal whose slot B has a link of two bytes at place 84, the pointer to the directory, for an image of 704 bytes.
-static JOURNAL: [Part; 8] = [
-    (0, &[0x5a, 1]),
-    (262208, &[1]),
-    (262212, &[7; 16]),
-    (262228, &[0xc0, 2]),
-    (262236, &[1]),
-    (262240, &[84]),
-    (262248, &[2]),
-    (262252, &[0x20, 2]),
-];
+// That document in 800 bytes without the pointer, with changes.
+fn image_with(alloc: Global, changes: &[Part]) -> Result<Vec<u8>, AllocError> {
+    let mut image = changed(
+        alloc,
+        &image_of(alloc, &EMPTY)?,
+        800,
+        &[(DIRECTORY_POSITION, &[0, 0])],
+    )?;
+    put(&mut image, changes)?;
+    Ok(image)
+}
+
+// A journal that commits 704 bytes and the pointer, with changes.
+fn journal_with(alloc: Global, changes: &[Part]) -> Result<Vec<u8>, AllocError> {
+    let journal = journal_of(alloc, 704, &LINKS)?;
+    changed(alloc, &journal, journal.len(), changes)
+}
 
 // That image, 96 bytes longer than the journal commits, beside that journal.
-fn two_files(
-    rt: &impl Abort,
-    alloc: Global,
-    in_image: &[Part],
-    in_journal: &[Part],
-) -> Result<MemRig, Fail> {
-    let image = file_of(rt, alloc, 800, &IMAGE, in_image)?;
-    let journal = file_of(rt, alloc, 524352, &JOURNAL, in_journal)?;
-    Ok(MemRig::new(alloc, &image, &journal)?)
+fn two_files(alloc: Global, in_image: &[Part], in_journal: &[Part]) -> Result<MemRig, AllocError> {
+    let image = image_with(alloc, in_image)?;
+    MemRig::new(alloc, &image, &journal_with(alloc, in_journal)?)
 }
 
 // The image once it is opened: 704 bytes, and the file header points at the directory.
 fn check_recovered(rt: &impl Abort, alloc: Global, rig: &MemRig) -> Result<(), Fail> {
-    let want = file_of(rt, alloc, 704, &IMAGE, &[(84, &[0x20, 2])])?;
+    let want = image_of(alloc, &EMPTY)?;
     assert!(rt; rig.content(File::Image) == want.as_slice());
     Ok(())
 }
@@ -80,13 +74,13 @@ fn check_opens(rt: &impl Abort, alloc: Global, image: &[u8], journal: &[u8]) -> 
 #[test]
 fn a_void_journal_leaves_the_image(rt: HostRuntime) -> Result<(), Fail> {
     let alloc = rt.alloc();
-    let mut rig = two_files(&rt, alloc, &[], &[(0, &[0])])?;
+    let mut rig = two_files(alloc, &[], &[(0, &[0])])?;
     let Ok(opened) = open(alloc, &mut rig) else {
         return Err(Fail::new("not opened"));
     };
     assert!(rt; opened.index.directory.is_none() && opened.index.length == 800);
     assert!(rt; !opened.journal.armed);
-    let image = file_of(&rt, alloc, 800, &IMAGE, &[])?;
+    let image = image_with(alloc, &[])?;
     assert!(rt; rig.content(File::Image) == image.as_slice());
     let calls = rig.calls();
     assert!(rt; close(&mut rig, opened.journal).is_ok() && rig.calls() == calls);
@@ -96,10 +90,10 @@ fn a_void_journal_leaves_the_image(rt: HostRuntime) -> Result<(), Fail> {
 #[test]
 fn a_journal_that_counts_is_recovered(rt: HostRuntime) -> Result<(), Fail> {
     let alloc = rt.alloc();
-    let mut rig = two_files(&rt, alloc, &[(100, &[1])], &[])?;
+    let mut rig = two_files(alloc, &[(UPDATE_PENDING, &[1])], &[])?;
     let journal = open_armed(&rt, alloc, &mut rig)?;
     check_recovered(&rt, alloc, &rig)?;
-    let stands = file_of(&rt, alloc, 524352, &JOURNAL, &[])?;
+    let stands = journal_with(alloc, &[])?;
     assert!(rt; rig.content(File::Journal) == stands.as_slice());
     assert!(rt; close(&mut rig, journal).is_ok());
     assert!(rt; rig.content(File::Journal) == [0].as_slice());
@@ -116,9 +110,9 @@ fn check_refusal(
     error: OpenError,
     kept: bool,
 ) -> Result<(), Fail> {
-    let mut rig = two_files(rt, alloc, in_image, in_journal)?;
+    let mut rig = two_files(alloc, in_image, in_journal)?;
     assert!(rt; open(alloc, &mut rig).err() == Some(error));
-    let image = file_of(rt, alloc, 800, &IMAGE, in_image)?;
+    let image = image_with(alloc, in_image)?;
     assert!(rt; (rig.content(File::Image) == image.as_slice()) == kept);
     Ok(())
 }
@@ -132,20 +126,44 @@ fn each_refusal_has_its_values(rt: HostRuntime) -> Result<(), Fail> {
     };
     let foreign = OpenError::ForeignJournal {
         journal: [9; 16],
-        image: [7; 16],
+        image: GUID,
     };
     let part = OpenError::Refused(ImageRefusal::MultiPart(3));
     let pending = OpenError::Refused(ImageRefusal::Pending(1));
     let version = OpenError::JournalVersion(2);
     let bad = OpenError::BadJournal(262228);
-    check_refusal(&rt, alloc, &[], &[(262208, &[2])], version, true)?;
-    check_refusal(&rt, alloc, &[], &[(262228, &[9, 0])], bad, true)?;
+    check_refusal(&rt, alloc, &[], &[(SLOT_B, &[2])], version, true)?;
+    check_refusal(
+        &rt,
+        alloc,
+        &[],
+        &[(SLOT_B + RECORD_LENGTH, &[9, 0])],
+        bad,
+        true,
+    )?;
     // too short, and of another: the length is told first
-    let changes: [Part; 2] = [(262228, &[0x21, 3]), (262212, &[9])];
+    let changes: [Part; 2] = [
+        (SLOT_B + RECORD_LENGTH, &[0x21, 3]),
+        (SLOT_B + RECORD_GUID, &[9]),
+    ];
     check_refusal(&rt, alloc, &[], &changes, short, true)?;
-    check_refusal(&rt, alloc, &[], &[(262212, &[9; 16])], foreign, true)?;
-    check_refusal(&rt, alloc, &[(80, &[3])], &[], part, false)?;
-    check_refusal(&rt, alloc, &[(100, &[1])], &[(0, &[0])], pending, true)?;
+    check_refusal(
+        &rt,
+        alloc,
+        &[],
+        &[(SLOT_B + RECORD_GUID, &[9; 16])],
+        foreign,
+        true,
+    )?;
+    check_refusal(&rt, alloc, &[(FILE_PART, &[3])], &[], part, false)?;
+    check_refusal(
+        &rt,
+        alloc,
+        &[(UPDATE_PENDING, &[1])],
+        &[(0, &[0])],
+        pending,
+        true,
+    )?;
     Ok(())
 }
 
@@ -171,7 +189,7 @@ fn error_of(call: Call) -> OpenError {
 
 // An opening in which a call fails leaves files that open.
 fn check_failure(rt: &impl Abort, alloc: Global, number: u64, call: Call) -> Result<(), Fail> {
-    let mut rig = two_files(rt, alloc, &[], &[])?;
+    let mut rig = two_files(alloc, &[], &[])?;
     rig.fail_call(number)?;
     assert!(rt;
         open(alloc, &mut rig).err() == Some(error_of(call)),
@@ -187,7 +205,7 @@ fn check_failure(rt: &impl Abort, alloc: Global, number: u64, call: Call) -> Res
 
 #[test]
 fn any_stop_of_an_opening_can_be_opened(rt: HostRuntime) -> Result<(), Fail> {
-    let mut rig = two_files(&rt, rt.alloc(), &[], &[])?;
+    let mut rig = two_files(rt.alloc(), &[], &[])?;
     assert!(rt; open(rt.alloc(), &mut rig).is_ok());
     for number in 0..rig.calls() {
         check_stops(&rt, rt.alloc(), &rig, number)?;

@@ -4,9 +4,10 @@ ghost use Rattle.std.specs.Prelude.{◌≡◌, IfOk};
 ghost use Rattle.czi_links.specs.Record.{EndWithin, encoded_len};
 
 use crate::files::PICKS;
-use czi_journal::{SLOT_LEN, Slot, create, probe, seal};
-use czi_links::{Links, SlotHead};
+use czi_journal::{Slot, create, probe, seal};
+use czi_links::{Links, SLOT_LEN, SlotHead};
 use czi_rig::{Call, File, MemRig, Pick};
+use czi_sample::journal_of;
 use czi_vault::{commit, prefill, recover, settle};
 use std::alloc::Global;
 use std::process::Abort;
@@ -152,10 +153,8 @@ fn any_stop_leaves_the_old_or_the_new_image(rt: HostRuntime) -> Result<(), Fail>
 
 // Recovers an image that is longer than its journal commits, as a crash right after the commit leaves it.
 fn recovered(rt: &impl Abort, alloc: Global) -> Result<MemRig, Fail> {
-    let mut journal = vec![in alloc; 0u8; 524352]?;
-    journal[0] = 0x5a;
+    let journal = journal_of(alloc, HEAD.length, &[(112, b"AB")])?;
     let links = one_link(rt, alloc)?;
-    links.encode(&HEAD, &mut journal[64..110]);
     let mut rig = MemRig::new(alloc, &[0; 160], &journal)?;
     assert!(rt; recover(&mut rig, &links, &HEAD).is_ok());
     Ok(rig)

@@ -3,66 +3,39 @@
 ghost use Rattle.std.specs.Prelude.{◌≡◌, ◌≤◌, ◌^◌, IfOk};
 ghost use Rattle.czi_test_image.specs.Removal.{IsRemoval};
 
-use crate::documents::{Part, document, image_of, index_in, put};
+use crate::documents::{document, index_in};
 use czi_image::{Act, Change, DirItem, DirectoryChange, ImageFault, Index, read_index};
 use czi_num::Span;
 use czi_rig::MemRig;
+use czi_sample::{Segment, image_of, many_tiles};
 use std::alloc::{AllocError, Global};
 use std::process::Abort;
 use std::test::Fail;
 
-// A document without items, whose directory stands at 544.
-static EMPTY: [Part; 7] = [
-    (0, b"ZISRAWFILE"),
-    (16, &[0, 2]),
-    (24, &[0, 2]),
-    (84, &[0x20, 2]),
-    (544, b"ZISRAWDIRECTORY"),
-    (560, &[128]),
-    (568, &[128]),
-];
-
-// The document without items in a file of so many bytes that end with this byte, and with more parts; where the walk ends,
-// how many segments of it are unknown, and the place and the length of each free extent.
-struct Beside {
-    length: usize,
-    tail: u8,
-    parts: &'static [Part],
-    walk_end: u64,
-    unknown: u64,
-    free: &'static [(u64, u64)],
-}
+// An image, where its walk ends, how many segments of it are unknown, and the place and the length of each free extent.
+type Beside = (
+    &'static [Segment<'static>],
+    (u64, u64),
+    &'static [(u64, u64)],
+);
 
 static BESIDE: [Beside; 3] = [
-    Beside {
-        length: 704,
-        tail: 0,
-        parts: &[],
-        walk_end: 704,
-        unknown: 0,
-        free: &[],
-    },
-    Beside {
-        length: 804,
-        tail: 0xFF,
-        parts: &[],
-        walk_end: 704,
-        unknown: 0,
-        free: &[],
-    },
-    Beside {
-        length: 802,
-        tail: 0,
-        parts: &[
-            (704, b"DELETED"),
-            (720, &[32]),
-            (768, b"FOREIGN"),
-            (784, &[1]),
+    (&[Segment::Directory(0)], (704, 0), &[]),
+    (
+        &[Segment::Directory(0), Segment::Raw(&[0xFF; 100])],
+        (704, 0),
+        &[],
+    ),
+    (
+        &[
+            Segment::Directory(0),
+            Segment::Deleted(32),
+            Segment::Foreign(b"FOREIGN\0\0\0\0\0\0\0\0\0", 1),
+            Segment::Raw(&[0]),
         ],
-        walk_end: 801,
-        unknown: 1,
-        free: &[(704, 64)],
-    },
+        (801, 1),
+        &[(704, 64)],
+    ),
 ];
 
 // The index has a directory on the walk, with this extent.
@@ -80,14 +53,16 @@ fn check_extents(rt: &impl Abort, extents: &[Span], free: &[(u64, u64)]) {
     }
 }
 
-fn check_beside(rt: &impl Abort, alloc: Global, row: &Beside) -> Result<(), Fail> {
-    let mut image = image_of(rt, alloc, 704, &EMPTY)?;
-    image.resize(row.length, row.tail)?;
-    put(rt, &mut image, row.parts);
+fn check_beside(
+    rt: &impl Abort,
+    alloc: Global,
+    (segments, (walk_end, unknown), free): &Beside,
+) -> Result<(), Fail> {
+    let image = image_of(alloc, segments)?;
     let index = index_in(alloc, &image)?;
-    assert!(rt; index.length == row.length as u64 && index.walk_end == row.walk_end);
-    assert!(rt; index.unknown == row.unknown);
-    check_extents(rt, &index.extents, row.free);
+    assert!(rt; index.length == image.len() as u64 && index.walk_end == *walk_end);
+    assert!(rt; index.unknown == *unknown);
+    check_extents(rt, &index.extents, free);
     assert!(rt; index.tiles.is_empty() && index.attachments.is_empty() && index.metadata.is_none());
     check_directory(rt, &index, 544, 160)
 }
@@ -132,7 +107,7 @@ fn check_metadata(rt: &impl Abort, index: &Index) -> Result<(), Fail> {
 
 #[test]
 fn a_document_is_read_by_one_read_each(rt: HostRuntime) -> Result<(), Fail> {
-    let image = document(&rt, rt.alloc(), 2093)?;
+    let image = document(rt.alloc(), 2093, &[])?;
     let mut rig = MemRig::new(rt.alloc(), &image, b"")?;
     let index = read_index(rt.alloc(), &mut rig).map_err(|_| "refused")?;
     assert!(rt; rig.calls() == 12 && index.walk_end == 1796 && index.unknown == 0);
@@ -152,44 +127,19 @@ fn check_failing(rt: &impl Abort, alloc: Global, image: &[u8], number: u64) -> R
 
 #[test]
 fn a_failed_call_is_answered(rt: HostRuntime) -> Result<(), Fail> {
-    let image = document(&rt, rt.alloc(), 2093)?;
+    let image = document(rt.alloc(), 2093, &[])?;
     for number in 0..12 {
         check_failing(&rt, rt.alloc(), &image, number)?;
     }
     Ok(())
 }
 
-// Two subblocks, at 832 and at 1152, and 64 free bytes behind them. The directory stands at 544, its entries at 704
-// and at 756.
-static TWO: [Part; 28] = [
-    (0, b"ZISRAWFILE"),
-    (16, &[0, 2]),
-    (24, &[0, 2]),
-    (84, &[0x20, 2]),
-    (544, b"ZISRAWDIRECTORY"),
-    (560, &[0, 1]),
-    (568, &[232]),
-    (576, &[2]),
-    (704, b"DV"),
-    (710, &[0x40, 3]),
-    (732, &[1]),
-    (736, b"X"),
-    (756, b"DV"),
-    (762, &[0x80, 4]),
-    (784, &[1]),
-    (788, b"X"),
-    (832, b"ZISRAWSUBBLOCK"),
-    (848, &[0x20, 1]),
-    (856, &[8, 1]),
-    (872, &[8]),
-    (908, &[1]),
-    (1152, b"ZISRAWSUBBLOCK"),
-    (1168, &[0x20, 1]),
-    (1176, &[8, 1]),
-    (1192, &[5]),
-    (1228, &[1]),
-    (1472, b"DELETED"),
-    (1488, &[32]),
+// Two subblocks, at 832 and at 1152, and 64 free bytes behind them. The directory stands at 544.
+static TWO: [Segment; 4] = [
+    Segment::Directory(128),
+    Segment::Tile(b"X0", b"ABCDEFGH"),
+    Segment::Tile(b"X0", b"ABCDE"),
+    Segment::Deleted(32),
 ];
 
 // The number of the subblock that goes, and the place of the one that stays.
@@ -265,7 +215,7 @@ fn check_other(
 
 #[test]
 fn a_subblock_is_taken_out(rt: HostRuntime) -> Result<(), Fail> {
-    let image = image_of(&rt, rt.alloc(), 1536, &TWO)?;
+    let image = image_of(rt.alloc(), &TWO)?;
     for (i, other) in OTHERS.iter() {
         let index = index_in(rt.alloc(), &image)?;
         check_both(&rt, &index);
@@ -276,4 +226,18 @@ fn a_subblock_is_taken_out(rt: HostRuntime) -> Result<(), Fail> {
         check_other(&rt, &index, *other, 1536, (544, 288))?;
     }
     Ok(())
+}
+
+#[test]
+fn ten_thousand_subblocks_are_read(rt: HostRuntime) -> Result<(), Fail> {
+    let image = many_tiles(rt.alloc(), 10_000)?;
+    let index = index_in(rt.alloc(), &image)?;
+    assert!(rt; index.tiles.len() == 10_000 && index.entries_len() == 920_000);
+    assert!(rt;
+        index
+            .tiles
+            .iter()
+            .all(|tile| tile.walked && tile.span.len == 320)
+    );
+    check_directory(&rt, &index, 3_200_544, 920_160)
 }

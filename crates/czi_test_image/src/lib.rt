@@ -3,6 +3,8 @@
 #![tactic(auto)]
 
 #[cfg(test)]
+mod attachment_scripts;
+#[cfg(test)]
 mod documents;
 #[cfg(test)]
 mod indexes;

@@ -1,12 +1,30 @@
 //! `czi_image`: what breaks each rule of reading, with the place and the values that are told, and which of two broken rules
 //! is told.
 
-use crate::documents::{Part, document, put};
+use crate::documents::{Part, document};
 use czi_image::{ImageFault, read_index};
 use czi_rig::MemRig;
+use czi_sample::places::*;
+use czi_sample::put;
 use std::alloc::{AllocError, Global};
 use std::process::Abort;
 use std::test::Fail;
+
+// Where the document has its directory and the entry in it, the subblock, the attachment directory and the entry in it, the
+// attachment, and the metadata.
+const DIRECTORY: usize = 544;
+
+const ENTRY: usize = 704;
+
+const TILE: usize = 768;
+
+const ATTDIR: usize = 1088;
+
+const A1: usize = 1376;
+
+const ATTACHMENT: usize = 1504;
+
+const METADATA_AT: usize = 1800;
 
 // What is told of an image in which no segments overlap.
 enum Told {
@@ -38,170 +56,178 @@ fn fault_of(told: &Told) -> ImageFault {
 type Row = (&'static [Part], Told);
 
 // What breaks no rule.
+#[rattlefmt::skip]
 static SOUND: [&[Part]; 8] = [
     &[],
-    &[(24, &[0, 0])],
-    &[(84, &[0, 0])],
-    &[(92, &[0, 0])],
-    &[(104, &[0, 0])],
-    &[(568, &[0])],
-    &[(808, &[32])],
-    &[(844, &[0])],
+    &[(USED, &[0, 0])],
+    &[(DIRECTORY_POSITION, &[0, 0])],
+    &[(METADATA_POSITION, &[0, 0])],
+    &[(ATTACHMENTS_POSITION, &[0, 0])],
+    &[(DIRECTORY + USED, &[0])],
+    &[(TILE + PIXELS_SIZE, &[32])],
+    &[(TILE + OWN_DIMENSIONS, &[0])],
 ];
 
 // ZISRAWFILE at 0: the id, AllocatedSize and UsedSize, and the extent.
+#[rattlefmt::skip]
 static NO_HEADER: [&[Part]; 7] = [
     &[(0, b"X")],
-    &[(16, &[79, 0])],
-    &[(23, &[0x80])],
-    &[(16, &[0x0E, 8])],
-    &[(24, &[79, 0])],
-    &[(24, &[1, 2])],
-    &[(31, &[0x80])],
+    &[(ALLOCATED, &[79, 0])],
+    &[(ALLOCATED + 7, &[0x80])],
+    &[(ALLOCATED, &[0x0E, 8])],
+    &[(USED, &[79, 0])],
+    &[(USED, &[1, 2])],
+    &[(USED + 7, &[0x80])],
 ];
 
 // The lengths of fronts of the document that have no file header.
 static SHORT: [usize; 6] = [0, 1, 32, 111, 112, 543];
 
 // FilePart, UpdatePending.
+#[rattlefmt::skip]
 static VALUES: [Row; 6] = [
-    (&[(80, &[1])], Told::MultiPart(1)),
-    (&[(80, &[0xFF; 4])], Told::MultiPart(-1)),
-    (&[(83, &[0x7F])], Told::MultiPart(0x7F00_0000)),
-    (&[(100, &[1])], Told::Pending(1)),
-    (&[(100, &[0xFF; 4])], Told::Pending(-1)),
-    (&[(103, &[0x7F])], Told::Pending(0x7F00_0000)),
+    (&[(FILE_PART, &[1])], Told::MultiPart(1)),
+    (&[(FILE_PART, &[0xFF; 4])], Told::MultiPart(-1)),
+    (&[(FILE_PART + 3, &[0x7F])], Told::MultiPart(0x7F00_0000)),
+    (&[(UPDATE_PENDING, &[1])], Told::Pending(1)),
+    (&[(UPDATE_PENDING, &[0xFF; 4])], Told::Pending(-1)),
+    (&[(UPDATE_PENDING + 3, &[0x7F])], Told::Pending(0x7F00_0000)),
 ];
 
 // DirectoryPosition, and the directory there: the id, the sizes, the extent, EntryCount.
-static DIRECTORY: [Row; 11] = [
-    (&[(84, &[0xFF; 8])], Told::BadDirectory(-1)),
-    (&[(84, &[0x8E, 7])], Told::BadDirectory(1934)),
-    (&[(84, &[0x21, 2])], Told::BadDirectory(545)),
-    (&[(544, b"X")], Told::BadDirectory(544)),
-    (&[(560, &[127]), (568, &[127])], Told::BadDirectory(544)),
-    (&[(560, &[0xEE, 5])], Told::BadDirectory(544)),
-    (&[(567, &[0x80])], Told::BadDirectory(544)),
-    (&[(568, &[181])], Told::BadDirectory(544)),
-    (&[(575, &[0x80])], Told::BadDirectory(544)),
-    (&[(579, &[0x80])], Told::BadDirectory(544)),
-    (&[(576, &[1, 0, 0x10])], Told::TooMany(544, 1_048_577)),
+#[rattlefmt::skip]
+static DIRECTORIES: [Row; 11] = [
+    (&[(DIRECTORY_POSITION, &[0xFF; 8])], Told::BadDirectory(-1)),
+    (&[(DIRECTORY_POSITION, &[0x8E, 7])], Told::BadDirectory(1934)),
+    (&[(DIRECTORY_POSITION, &[0x21, 2])], Told::BadDirectory(545)),
+    (&[(DIRECTORY, b"X")], Told::BadDirectory(544)),
+    (&[(DIRECTORY + ALLOCATED, &[127]), (DIRECTORY + USED, &[127])], Told::BadDirectory(544)),
+    (&[(DIRECTORY + ALLOCATED, &[0xEE, 5])], Told::BadDirectory(544)),
+    (&[(DIRECTORY + ALLOCATED + 7, &[0x80])], Told::BadDirectory(544)),
+    (&[(DIRECTORY + USED, &[181])], Told::BadDirectory(544)),
+    (&[(DIRECTORY + USED + 7, &[0x80])], Told::BadDirectory(544)),
+    (&[(DIRECTORY + COUNT + 3, &[0x80])], Told::BadDirectory(544)),
+    (&[(DIRECTORY + COUNT, &[1, 0, 0x10])], Told::TooMany(544, 1_048_577)),
 ];
 
 // The entries of the directory: DV, FilePart, DimensionCount, and that they end within it.
+#[rattlefmt::skip]
 static ENTRIES: [Row; 8] = [
-    (&[(704, b"X")], Told::BadEntry(704)),
-    (&[(718, &[1])], Told::BadEntry(704)),
-    (&[(718, &[0xFF; 4])], Told::BadEntry(704)),
-    (&[(732, &[0])], Told::BadEntry(704)),
-    (&[(732, &[41])], Told::BadEntry(704)),
-    (&[(732, &[0xFF; 4])], Told::BadEntry(704)),
-    (&[(576, &[2])], Told::BadEntry(756)),
-    (&[(576, &[0, 0, 0x10])], Told::BadEntry(756)),
+    (&[(ENTRY, b"X")], Told::BadEntry(704)),
+    (&[(ENTRY + ENTRY_PART, &[1])], Told::BadEntry(704)),
+    (&[(ENTRY + ENTRY_PART, &[0xFF; 4])], Told::BadEntry(704)),
+    (&[(ENTRY + DIMENSIONS, &[0])], Told::BadEntry(704)),
+    (&[(ENTRY + DIMENSIONS, &[41])], Told::BadEntry(704)),
+    (&[(ENTRY + DIMENSIONS, &[0xFF; 4])], Told::BadEntry(704)),
+    (&[(DIRECTORY + COUNT, &[2])], Told::BadEntry(756)),
+    (&[(DIRECTORY + COUNT, &[0, 0, 0x10])], Told::BadEntry(756)),
 ];
 
 // The subblock at an entry's position: the id, the sizes, the extent, DimensionCount of its own entry, its contents.
+#[rattlefmt::skip]
 static SUBBLOCKS: [Row; 17] = [
-    (&[(710, &[0; 8])], Told::BadSegment(0)),
-    (&[(710, &[0xFF; 8])], Told::BadSegment(-1)),
-    (&[(710, &[0x0E, 7])], Told::BadSegment(1806)),
-    (&[(768, b"X")], Told::BadSegment(768)),
-    (&[(784, &[0x0E, 5])], Told::BadSegment(768)),
-    (&[(791, &[0x80])], Told::BadSegment(768)),
-    (&[(792, &[0x21, 1])], Told::BadSegment(768)),
-    (&[(799, &[0x80])], Told::BadSegment(768)),
-    (&[(800, &[25])], Told::BadSegment(768)),
-    (&[(803, &[0x80])], Told::BadSegment(768)),
-    (&[(804, &[25])], Told::BadSegment(768)),
-    (&[(807, &[0x80])], Told::BadSegment(768)),
-    (&[(808, &[33])], Told::BadSegment(768)),
-    (&[(815, &[0x80])], Told::BadSegment(768)),
-    (&[(844, &[25])], Told::BadSegment(768)),
-    (&[(784, &[0x0D, 5]), (844, &[41])], Told::BadSegment(768)),
-    (&[(847, &[0x80])], Told::BadSegment(768)),
+    (&[(ENTRY + POSITION, &[0; 8])], Told::BadSegment(0)),
+    (&[(ENTRY + POSITION, &[0xFF; 8])], Told::BadSegment(-1)),
+    (&[(ENTRY + POSITION, &[0x0E, 7])], Told::BadSegment(1806)),
+    (&[(TILE, b"X")], Told::BadSegment(768)),
+    (&[(TILE + ALLOCATED, &[0x0E, 5])], Told::BadSegment(768)),
+    (&[(TILE + ALLOCATED + 7, &[0x80])], Told::BadSegment(768)),
+    (&[(TILE + USED, &[0x21, 1])], Told::BadSegment(768)),
+    (&[(TILE + USED + 7, &[0x80])], Told::BadSegment(768)),
+    (&[(TILE + META_SIZE, &[25])], Told::BadSegment(768)),
+    (&[(TILE + META_SIZE + 3, &[0x80])], Told::BadSegment(768)),
+    (&[(TILE + TAIL_SIZE, &[25])], Told::BadSegment(768)),
+    (&[(TILE + TAIL_SIZE + 3, &[0x80])], Told::BadSegment(768)),
+    (&[(TILE + PIXELS_SIZE, &[33])], Told::BadSegment(768)),
+    (&[(TILE + PIXELS_SIZE + 7, &[0x80])], Told::BadSegment(768)),
+    (&[(TILE + OWN_DIMENSIONS, &[25])], Told::BadSegment(768)),
+    (&[(TILE + ALLOCATED, &[0x0D, 5]), (TILE + OWN_DIMENSIONS, &[41])], Told::BadSegment(768)),
+    (&[(TILE + OWN_DIMENSIONS + 3, &[0x80])], Told::BadSegment(768)),
 ];
 
 // AttachmentDirectoryPosition, the attachment directory there, and its entries.
+#[rattlefmt::skip]
 static ATTACHMENT_DIRECTORY: [Row; 12] = [
-    (&[(104, &[0xFF; 8])], Told::BadAttachment(-1)),
-    (&[(104, &[0x0E, 7])], Told::BadAttachment(1806)),
-    (&[(1088, b"X")], Told::BadAttachment(1088)),
-    (
-        &[(1104, &[0x7F, 1]), (1112, &[0x7F, 1])],
-        Told::BadAttachment(1088),
-    ),
-    (&[(1104, &[0xCE, 3])], Told::BadAttachment(1088)),
-    (&[(1111, &[0x80])], Told::BadAttachment(1088)),
-    (&[(1112, &[0x81, 1])], Told::BadAttachment(1088)),
-    (&[(1119, &[0x80])], Told::BadAttachment(1088)),
-    (&[(1120, &[2])], Told::BadAttachment(1088)),
-    (&[(1123, &[0x80])], Told::BadAttachment(1088)),
-    (&[(1376, b"B")], Told::BadAttachment(1376)),
-    (&[(1104, &[0, 2]), (1120, &[2])], Told::BadAttachment(1504)),
+    (&[(ATTACHMENTS_POSITION, &[0xFF; 8])], Told::BadAttachment(-1)),
+    (&[(ATTACHMENTS_POSITION, &[0x0E, 7])], Told::BadAttachment(1806)),
+    (&[(ATTDIR, b"X")], Told::BadAttachment(1088)),
+    (&[(ATTDIR + ALLOCATED, &[0x7F, 1]), (ATTDIR + USED, &[0x7F, 1])], Told::BadAttachment(1088)),
+    (&[(ATTDIR + ALLOCATED, &[0xCE, 3])], Told::BadAttachment(1088)),
+    (&[(ATTDIR + ALLOCATED + 7, &[0x80])], Told::BadAttachment(1088)),
+    (&[(ATTDIR + USED, &[0x81, 1])], Told::BadAttachment(1088)),
+    (&[(ATTDIR + USED + 7, &[0x80])], Told::BadAttachment(1088)),
+    (&[(ATTDIR + COUNT, &[2])], Told::BadAttachment(1088)),
+    (&[(ATTDIR + COUNT + 3, &[0x80])], Told::BadAttachment(1088)),
+    (&[(A1, b"B")], Told::BadAttachment(1376)),
+    (&[(ATTDIR + ALLOCATED, &[0, 2]), (ATTDIR + COUNT, &[2])], Told::BadAttachment(1504)),
 ];
 
 // The attachment at an entry's position: the id, the sizes, the extent, DataSize.
+#[rattlefmt::skip]
 static ATTACHMENTS: [Row; 10] = [
-    (&[(1388, &[0; 8])], Told::BadAttachment(0)),
-    (&[(1388, &[0xFF; 8])], Told::BadAttachment(-1)),
-    (&[(1388, &[0x0E, 7])], Told::BadAttachment(1806)),
-    (&[(1504, b"X")], Told::BadAttachment(1504)),
-    (&[(1520, &[0x2E, 2])], Told::BadAttachment(1504)),
-    (&[(1527, &[0x80])], Told::BadAttachment(1504)),
-    (&[(1528, &[5, 1])], Told::BadAttachment(1504)),
-    (&[(1535, &[0x80])], Told::BadAttachment(1504)),
-    (&[(1536, &[5])], Told::BadAttachment(1504)),
-    (&[(1539, &[0x80])], Told::BadAttachment(1504)),
+    (&[(A1 + ATTACHMENT_POSITION, &[0; 8])], Told::BadAttachment(0)),
+    (&[(A1 + ATTACHMENT_POSITION, &[0xFF; 8])], Told::BadAttachment(-1)),
+    (&[(A1 + ATTACHMENT_POSITION, &[0x0E, 7])], Told::BadAttachment(1806)),
+    (&[(ATTACHMENT, b"X")], Told::BadAttachment(1504)),
+    (&[(ATTACHMENT + ALLOCATED, &[0x2E, 2])], Told::BadAttachment(1504)),
+    (&[(ATTACHMENT + ALLOCATED + 7, &[0x80])], Told::BadAttachment(1504)),
+    (&[(ATTACHMENT + USED, &[5, 1])], Told::BadAttachment(1504)),
+    (&[(ATTACHMENT + USED + 7, &[0x80])], Told::BadAttachment(1504)),
+    (&[(ATTACHMENT + DATA_SIZE, &[5])], Told::BadAttachment(1504)),
+    (&[(ATTACHMENT + DATA_SIZE + 3, &[0x80])], Told::BadAttachment(1504)),
 ];
 
 // MetadataPosition, and the metadata there: the id, the sizes, the extent, its contents.
+#[rattlefmt::skip]
 static METADATA: [Row; 12] = [
-    (&[(92, &[0xFF; 8])], Told::BadSegment(-1)),
-    (&[(92, &[0x0E, 7])], Told::BadSegment(1806)),
-    (&[(92, &[0x20, 2])], Told::BadSegment(544)),
-    (&[(1800, b"X")], Told::BadSegment(1800)),
-    (&[(1816, &[6, 1])], Told::BadSegment(1800)),
-    (&[(1823, &[0x80])], Told::BadSegment(1800)),
-    (&[(1824, &[6, 1])], Told::BadSegment(1800)),
-    (&[(1831, &[0x80])], Told::BadSegment(1800)),
-    (&[(1832, &[6])], Told::BadSegment(1800)),
-    (&[(1835, &[0x80])], Told::BadSegment(1800)),
-    (&[(1836, &[1])], Told::BadSegment(1800)),
-    (&[(1839, &[0x80])], Told::BadSegment(1800)),
+    (&[(METADATA_POSITION, &[0xFF; 8])], Told::BadSegment(-1)),
+    (&[(METADATA_POSITION, &[0x0E, 7])], Told::BadSegment(1806)),
+    (&[(METADATA_POSITION, &[0x20, 2])], Told::BadSegment(544)),
+    (&[(METADATA_AT, b"X")], Told::BadSegment(1800)),
+    (&[(METADATA_AT + ALLOCATED, &[6, 1])], Told::BadSegment(1800)),
+    (&[(METADATA_AT + ALLOCATED + 7, &[0x80])], Told::BadSegment(1800)),
+    (&[(METADATA_AT + USED, &[6, 1])], Told::BadSegment(1800)),
+    (&[(METADATA_AT + USED + 7, &[0x80])], Told::BadSegment(1800)),
+    (&[(METADATA_AT + XML_SIZE, &[6])], Told::BadSegment(1800)),
+    (&[(METADATA_AT + XML_SIZE + 3, &[0x80])], Told::BadSegment(1800)),
+    (&[(METADATA_AT + TAIL_SIZE, &[1])], Told::BadSegment(1800)),
+    (&[(METADATA_AT + TAIL_SIZE + 3, &[0x80])], Told::BadSegment(1800)),
 ];
 
 // The places and the lengths of the first two neighbours that meet.
+#[rattlefmt::skip]
 static OVERLAPS: [(&[Part], [u64; 4]); 4] = [
-    (&[(1520, &[32])], [1504, 320, 1800, 293]),
-    (&[(784, &[0x21]), (1520, &[32])], [768, 321, 1088, 416]),
-    (&[(16, &[1, 2]), (1520, &[32])], [0, 545, 544, 212]),
-    (&[(784, &[0x0D, 5]), (844, &[40])], [768, 1325, 1088, 416]),
+    (&[(ATTACHMENT + ALLOCATED, &[32])], [1504, 320, 1800, 293]),
+    (&[(TILE + ALLOCATED, &[0x21]), (ATTACHMENT + ALLOCATED, &[32])], [768, 321, 1088, 416]),
+    (&[(ALLOCATED, &[1, 2]), (ATTACHMENT + ALLOCATED, &[32])], [0, 545, 544, 212]),
+    (&[(TILE + ALLOCATED, &[0x0D, 5]), (TILE + OWN_DIMENSIONS, &[40])], [768, 1325, 1088, 416]),
 ];
 
 // What breaks each rule alone, in the order of the rules, but for the last.
+#[rattlefmt::skip]
 static RULES: [Row; 12] = [
     (&[(0, b"X")], Told::NotCzi),
-    (&[(80, &[1])], Told::MultiPart(1)),
-    (&[(100, &[1])], Told::Pending(1)),
-    (&[(544, b"X")], Told::BadDirectory(544)),
-    (&[(576, &[1, 0, 0x10])], Told::TooMany(544, 1_048_577)),
-    (&[(704, b"X")], Told::BadEntry(704)),
-    (&[(768, b"X")], Told::BadSegment(768)),
-    (&[(1088, b"X")], Told::BadAttachment(1088)),
-    (
-        &[(1104, &[0x80, 1, 8]), (1120, &[1, 0x10])],
-        Told::TooMany(1088, 4097),
-    ),
-    (&[(1376, b"X")], Told::BadAttachment(1376)),
-    (&[(1504, b"X")], Told::BadAttachment(1504)),
-    (&[(1800, b"X")], Told::BadSegment(1800)),
+    (&[(FILE_PART, &[1])], Told::MultiPart(1)),
+    (&[(UPDATE_PENDING, &[1])], Told::Pending(1)),
+    (&[(DIRECTORY, b"X")], Told::BadDirectory(544)),
+    (&[(DIRECTORY + COUNT, &[1, 0, 0x10])], Told::TooMany(544, 1_048_577)),
+    (&[(ENTRY, b"X")], Told::BadEntry(704)),
+    (&[(TILE, b"X")], Told::BadSegment(768)),
+    (&[(ATTDIR, b"X")], Told::BadAttachment(1088)),
+    (&[(ATTDIR + ALLOCATED, &[0x80, 1, 8]), (ATTDIR + COUNT, &[1, 0x10])], Told::TooMany(1088, 4097)),
+    (&[(A1, b"X")], Told::BadAttachment(1376)),
+    (&[(ATTACHMENT, b"X")], Told::BadAttachment(1504)),
+    (&[(METADATA_AT, b"X")], Told::BadSegment(1800)),
 ];
 
 // What breaks the last rule alone, which is on overlaps.
-static MEETING: [Part; 1] = [(1520, &[32])];
+static MEETING: [Part; 1] = [(ATTACHMENT + ALLOCATED, &[32])];
 
 // As many attachments as may be.
-static MOST: [Part; 2] = [(1104, &[0x80, 1, 8]), (1120, &[0, 0x10])];
+static MOST: [Part; 2] = [
+    (ATTDIR + ALLOCATED, &[0x80, 1, 8]),
+    (ATTDIR + COUNT, &[0, 0x10]),
+];
 
 // What is told of an image.
 fn fault_in(alloc: Global, image: &[u8]) -> Result<Option<ImageFault>, AllocError> {
@@ -211,30 +237,27 @@ fn fault_in(alloc: Global, image: &[u8]) -> Result<Option<ImageFault>, AllocErro
 
 // What is told of the document, in a file of so many bytes, with bytes of it written over, and more of them over these.
 fn refusal(
-    rt: &impl Abort,
     alloc: Global,
     len: usize,
     changes: &[Part],
     more: &[Part],
 ) -> Result<Option<ImageFault>, AllocError> {
-    let mut image = document(rt, alloc, len)?;
-    put(rt, &mut image, changes);
-    put(rt, &mut image, more);
+    let mut image = document(alloc, len, changes)?;
+    put(&mut image, more)?;
     fault_in(alloc, &image)
 }
 
 #[test]
 fn a_sound_document_is_not_refused(rt: HostRuntime) -> Result<(), Fail> {
     for changes in SOUND.iter() {
-        assert!(rt; refusal(&rt, rt.alloc(), 2093, changes, &[])?.is_none());
+        assert!(rt; refusal(rt.alloc(), 2093, changes, &[])?.is_none());
     }
     Ok(())
 }
 
 // The front of the document, of so many bytes, has no file header.
 fn check_short(rt: &impl Abort, alloc: Global, len: usize) -> Result<(), Fail> {
-    let mut image = document(rt, alloc, 2093)?;
-    image.truncate(len);
+    let image = document(alloc, len, &[])?;
     assert!(rt;
         fault_in(alloc, &image)? == Some(ImageFault::NotCzi),
         "{len} bytes"
@@ -245,7 +268,7 @@ fn check_short(rt: &impl Abort, alloc: Global, len: usize) -> Result<(), Fail> {
 #[test]
 fn an_image_without_a_file_header_is_no_czi(rt: HostRuntime) -> Result<(), Fail> {
     for changes in NO_HEADER.iter() {
-        let fault = refusal(&rt, rt.alloc(), 2093, changes, &[])?;
+        let fault = refusal(rt.alloc(), 2093, changes, &[])?;
         assert!(rt; fault == Some(ImageFault::NotCzi));
     }
     for len in SHORT.iter() {
@@ -257,7 +280,7 @@ fn an_image_without_a_file_header_is_no_czi(rt: HostRuntime) -> Result<(), Fail>
 // Each row of a table is told.
 fn check_rows(rt: &impl Abort, alloc: Global, rows: &[Row]) -> Result<(), Fail> {
     for (i, (changes, told)) in rows.iter().enumerate() {
-        let fault = refusal(rt, alloc, 2093, changes, &[])?;
+        let fault = refusal(alloc, 2093, changes, &[])?;
         assert!(rt; fault == Some(fault_of(told)), "row {i}");
     }
     Ok(())
@@ -266,7 +289,7 @@ fn check_rows(rt: &impl Abort, alloc: Global, rows: &[Row]) -> Result<(), Fail> 
 #[test]
 fn a_broken_rule_refuses_with_its_place_and_values(rt: HostRuntime) -> Result<(), Fail> {
     check_rows(&rt, rt.alloc(), &VALUES)?;
-    check_rows(&rt, rt.alloc(), &DIRECTORY)?;
+    check_rows(&rt, rt.alloc(), &DIRECTORIES)?;
     check_rows(&rt, rt.alloc(), &ENTRIES)?;
     check_rows(&rt, rt.alloc(), &SUBBLOCKS)?;
     check_rows(&rt, rt.alloc(), &ATTACHMENT_DIRECTORY)?;
@@ -280,7 +303,7 @@ fn check_overlap(
     alloc: Global,
     row: &(&'static [Part], [u64; 4]),
 ) -> Result<(), Fail> {
-    let Some(ImageFault::Overlap(one, two)) = refusal(rt, alloc, 2093, row.0, &[])? else {
+    let Some(ImageFault::Overlap(one, two)) = refusal(alloc, 2093, row.0, &[])? else {
         return Err(Fail::new("no overlap"));
     };
     assert!(rt; [one.at, one.len, two.at, two.len] == row.1);
@@ -298,10 +321,10 @@ fn the_first_two_live_segments_that_meet_refuse(rt: HostRuntime) -> Result<(), F
 // A row is told where its rule alone is broken, and where another one is broken before it was.
 fn check_first(rt: &impl Abort, alloc: Global, row: &Row, later: &[Row]) -> Result<(), Fail> {
     let want = Some(fault_of(&row.1));
-    assert!(rt; refusal(rt, alloc, 600_000, row.0, &[])? == want);
-    assert!(rt; refusal(rt, alloc, 600_000, &MEETING, row.0)? == want);
+    assert!(rt; refusal(alloc, 600_000, row.0, &[])? == want);
+    assert!(rt; refusal(alloc, 600_000, &MEETING, row.0)? == want);
     for (changes, _) in later {
-        assert!(rt; refusal(rt, alloc, 600_000, changes, row.0)? == want);
+        assert!(rt; refusal(alloc, 600_000, changes, row.0)? == want);
     }
     Ok(())
 }
@@ -316,7 +339,7 @@ fn the_first_broken_rule_refuses(rt: HostRuntime) -> Result<(), Fail> {
 
 #[test]
 fn as_many_attachments_as_may_be_are_read(rt: HostRuntime) -> Result<(), Fail> {
-    let fault = refusal(&rt, rt.alloc(), 600_000, &MOST, &[])?;
+    let fault = refusal(rt.alloc(), 600_000, &MOST, &[])?;
     assert!(rt; fault == Some(ImageFault::BadAttachment(1504)));
     Ok(())
 }

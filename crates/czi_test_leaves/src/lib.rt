@@ -22,6 +22,8 @@ mod numbers;
 #[cfg(test)]
 mod regions;
 #[cfg(test)]
+mod samples;
+#[cfg(test)]
 mod segments;
 #[cfg(test)]
 mod spans;

@@ -1,11 +1,13 @@
 //! Tests of subblocks that are added and replaced: what scripts say and leave, and what crashes and failures in each call leave.
 
-use crate::calls::{SELECTOR, Told, check_crashes, number_of};
+use crate::calls::{SELECTOR, Told, check_crashes, check_failed, check_listed, number_of};
 use crate::devices::{NEVER, check_files, failing_rig};
-use crate::images::{Part, empty_document, one_tile};
-use crate::outcomes::{NO_TILES, TILE, check_said, outcome, outcome_over};
+use crate::images::{PLAIN, TAILED};
+use crate::outcomes::{NO_TILES, TILE, outcome, outcome_over};
 use crate::scripts::{Misfit, NONE, check_misfit};
 use czi_rig::{Call, File, MemRig, Pick};
+use czi_sample::places::*;
+use czi_sample::{ONE_TILE, ONE_TILE_WITH_ROOM, Part, Segment, image_of};
 use std::alloc::{AllocError, Global};
 use std::process::Abort;
 use std::test::Fail;
@@ -16,39 +18,29 @@ const ADD: &[u8] = b"add pixel=0 dims=C0,X0:4,Y0:2 meta=0 data=8 att=0\nABCDEFGH
 // It breaks off behind that.
 const BROKEN_OFF: &[u8] = b"add pixel=0 dims=C0,X0:4,Y0:2 meta=0 data=8 att=0\nABCDEFGH\nbad\n";
 
-// A rig over the document without subblocks in so many bytes, with changes, whose call with this number fails.
-fn empty_rig(
-    alloc: Global,
-    (len, changes): (usize, &[Part]),
-    failing: u64,
-) -> Result<MemRig, AllocError> {
-    let image = empty_document(alloc, len, changes)?;
-    failing_rig(alloc, &image, failing)
+// A rig over the image of these segments, whose call with this number fails.
+fn rig_of(alloc: Global, segments: &[Segment], failing: u64) -> Result<MemRig, AllocError> {
+    failing_rig(alloc, &image_of(alloc, segments)?, failing)
 }
 
-// A run of a script over the document without subblocks: it ended and said so.
+// A run of a script over the image of these segments: it ended and said so.
 fn ran(
     rt: &impl Abort,
     alloc: Global,
-    file: (usize, &[Part]),
+    segments: &[Segment],
     script: &[u8],
     (status, said): (u8, &[u8]),
 ) -> Result<MemRig, Fail> {
-    let mut rig = empty_rig(alloc, file, NEVER)?;
+    let mut rig = rig_of(alloc, segments, NEVER)?;
     let answer = outcome(alloc, &["F", "edit"], script, &mut rig)?;
     assert!(rt; answer == status);
     assert!(rt; rig.said() == said);
     Ok(rig)
 }
 
-const PLAIN: (usize, &[Part]) = (704, &[]);
-
-// The document is followed by 100 bytes that are no segment.
-const TAILED: (usize, &[Part]) = (804, &[(704, &[0xFF; 100])]);
-
-// A script: the file that it edits, the status and what is said, and what `list` says afterwards.
+// A script: the image that it edits, the status and what is said, and what `list` says afterwards.
 type Row = (
-    (usize, &'static [Part]),
+    &'static [Segment<'static>],
     &'static [u8],
     u8,
     &'static [u8],
@@ -119,17 +111,11 @@ static ROWS: [Row; 8] = [
     ),
 ];
 
-// What `list` says of what a run has left.
-fn check_listed(rt: &impl Abort, alloc: Global, rig: &MemRig, said: &[u8]) -> Result<(), Fail> {
-    let files = (rig.content(File::Image), rig.content(File::Journal));
-    check_said(rt, alloc, "list", files, (0, said))
-}
-
 #[test]
 fn subblocks_are_added_and_replaced(rt: HostRuntime) -> Result<(), Fail> {
     let alloc = rt.alloc();
-    for (file, script, status, said, listed) in ROWS.iter() {
-        let rig = ran(&rt, alloc, *file, script, (*status, said))?;
+    for (segments, script, status, said, listed) in ROWS.iter() {
+        let rig = ran(&rt, alloc, segments, script, (*status, said))?;
         check_listed(&rt, alloc, &rig, listed)?;
     }
     Ok(())
@@ -152,36 +138,23 @@ fn stand_at(bytes: &[u8], at: usize, part: &[u8]) -> bool {
     at <= bytes.len() && bytes[at..].starts_with(part)
 }
 
-// What of the image an addition leaves: the headers of the subblock and of the directory, with their sizes, the pixels and
-// their padding.
-static WRITTEN: [Part; 4] = [
-    (
-        704,
-        b"ZISRAWSUBBLOCK\0\0\x20\x01\0\0\0\0\0\0\x08\x01\0\0\0\0\0\0",
-    ),
-    (992, b"ABCDEFGH\0\0\0\0\0\0\0\0"),
-    (
-        1024,
-        b"ZISRAWDIRECTORY\0\xE0\x04\0\0\0\0\0\0\xDC\0\0\0\0\0\0\0",
-    ),
-    (1056, &[1, 0, 0, 0]),
-];
-
-// And of the journal: slot B is selected, with the length 2304 and four links, the first of which is at place 84.
+// What of the journal an addition leaves: slot B is selected, with the length 2304 and four links, the first of which is at
+// place 84.
 static COMMITTED: [Part; 2] = [
-    (1, &[1]),
-    (262_228, &[0, 9, 0, 0, 0, 0, 0, 0, 4, 0, 0, 0, 84, 0, 0, 0]),
+    (SELECTOR_BYTE, &[1]),
+    (
+        SLOT_B + RECORD_LENGTH,
+        &[0, 9, 0, 0, 0, 0, 0, 0, 4, 0, 0, 0, 84, 0, 0, 0],
+    ),
 ];
 
 #[test]
 fn an_addition_is_written_and_committed(rt: HostRuntime) -> Result<(), Fail> {
     let alloc = rt.alloc();
     let rig = ran(&rt, alloc, PLAIN, BROKEN_OFF, (3, b"ok 1\nscript 2 word\n"))?;
-    let (image, journal) = (rig.content(File::Image), rig.content(File::Journal));
-    assert!(rt; image.len() == 2304 && journal.len() == 524_352);
-    for (at, part) in WRITTEN.iter() {
-        assert!(rt; stand_at(image, *at, part));
-    }
+    let image = image_of(alloc, &ONE_TILE_WITH_ROOM)?;
+    let journal = rig.content(File::Journal);
+    assert!(rt; rig.content(File::Image) == image.as_slice() && journal.len() == 524_352);
     for (at, part) in COMMITTED.iter() {
         assert!(rt; stand_at(journal, *at, part));
     }
@@ -214,8 +187,7 @@ const REPLACED: &[u8] = b"tiles 1\ntile 0 1280 pixel=1 comp=0 dims=C0:1:1,X0:4:4
 #[test]
 fn a_crash_in_any_call_leaves_the_old_subblock_or_the_new_one(rt: HostRuntime) -> Result<(), Fail> {
     let alloc = rt.alloc();
-    let image = one_tile(alloc, 1280, &[])?;
-    let mut rig = failing_rig(alloc, &image, NEVER)?;
+    let mut rig = rig_of(alloc, &ONE_TILE, NEVER)?;
     let script = b"replace pixel=1 dims=C0,X0:4,Y0:2 meta=0 data=8 att=0\nabcdefgh\n";
     let status = outcome(alloc, &["F", "edit"], script, &mut rig)?;
     assert!(rt; status == 0 && rig.said() == b"ok 1\n".as_slice());
@@ -258,13 +230,19 @@ static MISFITS: [Misfit; 5] = [
     (1000, NONE, NONE, 2, b"refused short 1000 2304\n"),
     (
         2304,
-        (64, &[0; 16]),
+        (FILE_GUID, &[0; 16]),
         NONE,
         2,
         b"refused foreign 00112233-4455-6677-8899-aabbccddeeff 00000000-0000-0000-0000-000000000000\n",
     ),
-    (2304, NONE, (262_208, &[9]), 2, b"refused version 9\n"),
-    (2304, NONE, (262_236, &[5]), 2, b"refused journal 262392\n"),
+    (2304, NONE, (SLOT_B, &[9]), 2, b"refused version 9\n"),
+    (
+        2304,
+        NONE,
+        (SLOT_B + RECORD_COUNT, &[5]),
+        2,
+        b"refused journal 262392\n",
+    ),
 ];
 
 #[test]
@@ -289,17 +267,16 @@ fn first_write(rig: &MemRig, file: File) -> Result<u64, Fail> {
     Err(Fail::new("no such call"))
 }
 
-fn check_failed(
+// An addition in which the call with this number fails.
+fn check_addition_failed(
     rt: &impl Abort,
     alloc: Global,
     failing: u64,
-    (status, said): (u8, &[u8]),
+    want: (u8, &[u8]),
     listed: &[u8],
 ) -> Result<(), Fail> {
-    let mut rig = empty_rig(alloc, PLAIN, failing)?;
-    let answer = outcome(alloc, &["F", "edit"], ADD, &mut rig)?;
-    assert!(rt; answer == status && rig.said() == said);
-    check_listed(rt, alloc, &rig, listed)
+    let mut rig = rig_of(alloc, PLAIN, failing)?;
+    check_failed(rt, alloc, &mut rig, ADD, want, listed)
 }
 
 #[test]
@@ -310,13 +287,13 @@ fn a_failed_call_stops_the_addition(rt: HostRuntime) -> Result<(), Fail> {
         first_write(&whole, File::Image)?,
         first_write(&whole, File::Journal)?,
     );
-    check_failed(&rt, alloc, image, (4, b""), NO_TILES)?;
-    check_failed(&rt, alloc, journal, (5, b""), NO_TILES)?;
+    check_addition_failed(&rt, alloc, image, (4, b""), NO_TILES)?;
+    check_addition_failed(&rt, alloc, journal, (5, b""), NO_TILES)?;
     let say = number_of(&whole, Call::Say)?;
-    check_failed(&rt, alloc, say, (6, b"ok "), TILE)?;
-    let mut rig = empty_rig(alloc, PLAIN, NEVER)?;
+    check_addition_failed(&rt, alloc, say, (6, b"ok "), TILE)?;
+    let mut rig = rig_of(alloc, PLAIN, NEVER)?;
     let status = outcome_over(alloc, &["F", "edit"], ADD, 0, &mut rig)?;
-    let image = empty_document(alloc, 704, &[])?;
+    let image = image_of(alloc, PLAIN)?;
     assert!(rt; status == 7 && rig.said() == b"".as_slice());
     check_files(&rt, &rig, &image, b"");
     Ok(())

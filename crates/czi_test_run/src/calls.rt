@@ -128,19 +128,29 @@ static FAILED: [(Call, u8, &[u8], &[u8]); 6] = [
     (Call::Cut(File::Journal, 1), 5, REPLIES, NO_TILES),
 ];
 
-// A run of the script in which the call with this number fails, and what `list` says then.
-fn check_failed(
+/// What `list` says of what a run has left.
+pub(crate) fn check_listed(
     rt: &impl Abort,
     alloc: Global,
-    failing: u64,
+    rig: &MemRig,
+    said: &[u8],
+) -> Result<(), Fail> {
+    let files = (rig.content(File::Image), rig.content(File::Journal));
+    check_said(rt, alloc, "list", files, (0, said))
+}
+
+/// A run of a script in which a call fails, and what `list` says then.
+pub(crate) fn check_failed(
+    rt: &impl Abort,
+    alloc: Global,
+    rig: &mut MemRig,
+    script: &[u8],
     (status, said): (u8, &[u8]),
     listed: &[u8],
 ) -> Result<(), Fail> {
-    let mut rig = one_tile_rig(alloc, failing)?;
-    let answer = outcome(alloc, &["F", "edit"], SCRIPT, &mut rig)?;
-    assert!(rt; answer == status && rig.said() == said, "call {failing}");
-    let files = (rig.content(File::Image), rig.content(File::Journal));
-    check_said(rt, alloc, "list", files, (0, listed))
+    let answer = outcome(alloc, &["F", "edit"], script, rig)?;
+    assert!(rt; answer == status && rig.said() == said);
+    check_listed(rt, alloc, rig, listed)
 }
 
 #[test]
@@ -149,7 +159,8 @@ fn a_failed_call_stops_the_script(rt: HostRuntime) -> Result<(), Fail> {
     let whole = whole_run(&rt, alloc)?;
     for (call, status, said, listed) in FAILED.iter() {
         let failing = number_of(&whole, *call)?;
-        check_failed(&rt, alloc, failing, (*status, said), listed)?;
+        let mut rig = one_tile_rig(alloc, failing)?;
+        check_failed(&rt, alloc, &mut rig, SCRIPT, (*status, said), listed)?;
     }
     Ok(())
 }

@@ -5,50 +5,34 @@ ghost use Rattle.czi_rig.specs.MemRig.{state_in};
 ghost use Rattle.czi_engine.specs.Standing.{StandsOnRig};
 
 use crate::devices::check_files;
-use crate::images::{Part, file, put};
-use czi_doc::read_dims;
+use czi_doc::{EntryInfo, read_dims};
 use czi_engine::{EditError, Engine, ImageRefusal, OpenError};
+use czi_image::{Index, Tile};
 use czi_num::Span;
-use czi_rig::MemRig;
+use czi_rig::{File, MemRig};
+use czi_sample::places::*;
+use czi_sample::{
+    EMPTY, GUID, Link, ONE_TILE, ONE_TILE_WITH_ROOM, PIXELS, Part, Segment, changed, image_of,
+    journal_of,
+};
 use std::alloc::{AllocError, Global};
 use std::process::Abort;
 use std::test::Fail;
 
 // An image of 704 bytes: 160 bytes at 544 are DELETED.
-static IMAGE: [Part; 5] = [
-    (0, b"ZISRAWFILE"),
-    (16, &[0, 2]),
-    (64, &[7; 16]),
-    (544, b"DELETED"),
-    (560, &[128]),
-];
+static IMAGE: [Segment; 1] = [Segment::Deleted(128)];
 
-// A journal whose slot B has a link of two bytes at place 84, the pointer to the directory, for an image of 704 bytes.
-static JOURNAL: [Part; 8] = [
-    (0, &[0x5a, 1]),
-    (262208, &[1]),
-    (262212, &[7; 16]),
-    (262228, &[0xc0, 2]),
-    (262236, &[1]),
-    (262240, &[84]),
-    (262248, &[2]),
-    (262252, &[0, 0]),
-];
+// What its journal writes over the pointer to the directory.
+static LINKS: [Link; 1] = [(DIRECTORY_POSITION as u64, &[0, 0])];
 
-// The image of so many bytes, with changes.
-fn image_of(alloc: Global, len: usize, changes: &[Part]) -> Result<Vec<u8>, AllocError> {
-    file(alloc, len, &IMAGE, changes)
+// That image in so many bytes, with changes.
+fn image_in(alloc: Global, len: usize, changes: &[Part]) -> Result<Vec<u8>, AllocError> {
+    changed(alloc, &image_of(alloc, &IMAGE)?, len, changes)
 }
 
-// The journal with changes.
-fn journal_of(alloc: Global, changes: &[Part]) -> Result<Vec<u8>, AllocError> {
-    file(alloc, 524352, &JOURNAL, changes)
-}
-
-// A rig over the image of so many bytes with changes, and no journal.
-fn rig_of(alloc: Global, len: usize, changes: &[Part]) -> Result<MemRig, AllocError> {
-    let image = image_of(alloc, len, changes)?;
-    MemRig::new(alloc, &image, b"")
+// A rig over an image, and no journal.
+fn rig_of(alloc: Global, segments: &[Segment]) -> Result<MemRig, AllocError> {
+    MemRig::new(alloc, &image_of(alloc, segments)?, b"")
 }
 
 // The engine stands on an image of this length, after so many edits.
@@ -67,7 +51,7 @@ fn check_empty(rt: &impl Abort, engine: &Engine, free: &[Span]) -> Result<(), Fa
 #[test]
 fn an_empty_document_is_opened_and_closed(rt: HostRuntime) -> Result<(), Fail> {
     let alloc = rt.alloc();
-    let mut rig = rig_of(alloc, 704, &[])?;
+    let mut rig = rig_of(alloc, &IMAGE)?;
     let Ok(engine) = Engine::open(alloc, &mut rig) else {
         return Err(Fail::new("not opened"));
     };
@@ -81,8 +65,8 @@ fn an_empty_document_is_opened_and_closed(rt: HostRuntime) -> Result<(), Fail> {
 
 // A rig whose image is longer than its journal says, with another pointer to the directory and an update pending.
 fn recoverable(alloc: Global, journal: &[u8]) -> Result<MemRig, AllocError> {
-    let image = image_of(alloc, 800, &[(84, &[9]), (100, &[1])])?;
-    MemRig::new(alloc, &image, journal)
+    let changes: [Part; 2] = [(DIRECTORY_POSITION, &[9]), (UPDATE_PENDING, &[1])];
+    MemRig::new(alloc, &image_in(alloc, 800, &changes)?, journal)
 }
 
 // The engine on these files is opened, opened again and sealed: the journal stays until then.
@@ -110,8 +94,8 @@ fn check_recovered(
 #[test]
 fn a_journal_that_counts_is_recovered_and_sealed(rt: HostRuntime) -> Result<(), Fail> {
     let alloc = rt.alloc();
-    let image = image_of(alloc, 704, &[])?;
-    let journal = journal_of(alloc, &[])?;
+    let image = image_of(alloc, &IMAGE)?;
+    let journal = journal_of(alloc, 704, &LINKS)?;
     let mut rig = recoverable(alloc, &journal)?;
     check_recovered(&rt, alloc, &mut rig, &image, &journal)
 }
@@ -124,8 +108,9 @@ fn check_refused(
     in_journal: &[Part],
     why: OpenError,
 ) -> Result<(), Fail> {
-    let image = image_of(alloc, 800, in_image)?;
-    let journal = journal_of(alloc, in_journal)?;
+    let image = image_in(alloc, 800, in_image)?;
+    let journal = journal_of(alloc, 704, &LINKS)?;
+    let journal = changed(alloc, &journal, journal.len(), in_journal)?;
     let mut rig = MemRig::new(alloc, &image, &journal)?;
     let opened = Engine::open(alloc, &mut rig);
     assert!(rt; opened.err() == Some(why));
@@ -136,21 +121,33 @@ fn check_refused(
 fn each_refusal_is_told(rt: HostRuntime) -> Result<(), Fail> {
     let alloc = rt.alloc();
     let version = OpenError::JournalVersion(2);
-    check_refused(&rt, alloc, &[], &[(262208, &[2])], version)?;
+    check_refused(&rt, alloc, &[], &[(SLOT_B, &[2])], version)?;
     let bad = OpenError::BadJournal(262228);
-    check_refused(&rt, alloc, &[], &[(262228, &[9, 0])], bad)?;
+    check_refused(&rt, alloc, &[], &[(SLOT_B + RECORD_LENGTH, &[9, 0])], bad)?;
     let short = OpenError::ImageShort {
         have: 800,
         need: 801,
     };
-    check_refused(&rt, alloc, &[], &[(262228, &[0x21, 3])], short)?;
+    check_refused(
+        &rt,
+        alloc,
+        &[],
+        &[(SLOT_B + RECORD_LENGTH, &[0x21, 3])],
+        short,
+    )?;
     let foreign = OpenError::ForeignJournal {
         journal: [9; 16],
-        image: [7; 16],
+        image: GUID,
     };
-    check_refused(&rt, alloc, &[], &[(262212, &[9; 16])], foreign)?;
+    check_refused(
+        &rt,
+        alloc,
+        &[],
+        &[(SLOT_B + RECORD_GUID, &[9; 16])],
+        foreign,
+    )?;
     let pending = OpenError::Refused(ImageRefusal::Pending(1));
-    check_refused(&rt, alloc, &[(100, &[1])], &[(0, &[0])], pending)
+    check_refused(&rt, alloc, &[(UPDATE_PENDING, &[1])], &[(0, &[0])], pending)
 }
 
 // The next call of the rig fails: the engine is down after it, and up again once it is opened again.
@@ -171,33 +168,12 @@ fn check_down(
 #[test]
 fn an_engine_is_down_until_it_is_opened_again(rt: HostRuntime) -> Result<(), Fail> {
     let alloc = rt.alloc();
-    let mut rig = rig_of(alloc, 704, &[])?;
+    let mut rig = rig_of(alloc, &IMAGE)?;
     let Ok(mut engine) = Engine::open(alloc, &mut rig) else {
         return Err(Fail::new("not opened"));
     };
     check_down(&rt, alloc, &mut engine, &mut rig)
 }
-
-// What an image of 1280 bytes has besides: a subblock of 320 bytes at 704, and the directory at 1024, which names it.
-static SUBBLOCK: [Part; 14] = [
-    (24, &[0, 2]),
-    (84, &[0, 4]),
-    (704, b"ZISRAWSUBBLOCK"),
-    (720, &[0x20, 1]),
-    (728, &[8, 1]),
-    (744, &[8]),
-    (780, &[3]),
-    (1024, b"ZISRAWDIRECTORY"),
-    (1040, &[224]),
-    (1048, &[220]),
-    (1056, &[1]),
-    (1184, b"DV"),
-    (1190, &[0xC0, 2]),
-    (
-        1212,
-        b"\x03\0\0\0C\0\0\0\0\0\0\0\x01\0\0\0\0\0\0\0\0\0\0\0X\0\0\0\0\0\0\0\x04\0\0\0\0\0\0\0\0\0\0\0Y\0\0\0\0\0\0\0\x02",
-    ),
-];
 
 // The first removal is accepted. The second finds no key, and makes no call.
 fn check_removal(
@@ -236,32 +212,96 @@ fn check_directory(rt: &impl Abort, engine: &Engine, len: u64) -> Result<(), Fai
     Ok(())
 }
 
-// How long the image is, what is written over it, and how long the directory is: as long as its entry asks for, and longer.
-static REMOVALS: [(usize, Part, u64); 2] = [(1280, (1041, &[0]), 256), (2304, (1041, &[4]), 1280)];
-
+// The subblock of this image is removed: its directory has so many bytes, and stays.
 fn check_removed(
     rt: &impl Abort,
     alloc: Global,
-    (len, part, directory): (usize, Part, u64),
+    segments: &[Segment],
+    directory: u64,
 ) -> Result<(), Fail> {
-    let mut image = image_of(alloc, len, &SUBBLOCK)?;
-    put(&mut image, &[part]);
-    let mut rig = MemRig::new(alloc, &image, b"")?;
+    let mut rig = rig_of(alloc, segments)?;
+    let len = rig.content(File::Image).len() as u64;
     let Ok(mut engine) = Engine::open(alloc, &mut rig) else {
         return Err(Fail::new("not opened"));
     };
     assert!(rt; engine.entries().len() == 1);
     check_directory(rt, &engine, directory)?;
     check_removal(rt, alloc, &mut engine, &mut rig)?;
-    check_standing(rt, &engine, len as u64, 1);
+    check_standing(rt, &engine, len, 1);
     check_directory(rt, &engine, directory)?;
     check_held(rt, &engine)
 }
 
 #[test]
 fn a_removal_holds_the_subblock_back(rt: HostRuntime) -> Result<(), Fail> {
-    for row in REMOVALS.iter() {
-        check_removed(&rt, rt.alloc(), *row)?;
+    check_removed(&rt, rt.alloc(), &ONE_TILE, 256)?;
+    check_removed(&rt, rt.alloc(), &ONE_TILE_WITH_ROOM, 1280)
+}
+
+// An engine over the document without subblocks, once one was added.
+fn added(alloc: Global, rig: &mut MemRig) -> Result<Engine, Fail> {
+    let dims = read_dims(alloc, b"C0,X0:4,Y0:2").ok().ok_or("no dims")?;
+    let info = EntryInfo {
+        pixel: 0,
+        compression: 0,
+        pyramid: 0,
+        spare: [0; 5],
+        dims,
+    };
+    let Ok(mut engine) = Engine::open(alloc, rig) else {
+        return Err(Fail::new("not opened"));
+    };
+    match engine.add(rig, &info, b"", PIXELS, b"") {
+        Ok(1) => Ok(engine),
+        _ => Err(Fail::new("not added")),
     }
+}
+
+fn same_tiles(one: &[Tile], other: &[Tile]) -> bool {
+    one.len() == other.len()
+        && one.iter().zip(other).all(|(a, b)| {
+            a.info == b.info
+                && (a.span, a.head, a.walked) == (b.span, b.head, b.walked)
+                && (a.begin, a.meta, a.pixels, a.tail) == (b.begin, b.meta, b.pixels, b.tail)
+        })
+}
+
+// What two indexes hold, and where it lies.
+fn check_same(rt: &impl Abort, one: &Index, other: &Index) {
+    assert!(rt; one.header == other.header && one.length == other.length);
+    assert!(rt; one.directory == other.directory && same_tiles(&one.tiles, &other.tiles));
+    assert!(rt; one.attdir == other.attdir && one.attachments == other.attachments);
+    assert!(rt; one.metadata == other.metadata && one.extents == other.extents);
+    assert!(rt; one.unknown == other.unknown && one.walk_end == other.walk_end);
+}
+
+// An engine is opened again: the files stay, and its index is that of an engine that is opened afresh.
+fn check_reopened(
+    rt: &impl Abort,
+    alloc: Global,
+    engine: &mut Engine,
+    rig: &mut MemRig,
+) -> Result<(), Fail> {
+    let image = Vec::from_slice(alloc, rig.content(File::Image))?;
+    let journal = Vec::from_slice(alloc, rig.content(File::Journal))?;
+    assert!(rt; engine.reopen(rig).is_ok());
+    check_files(rt, rig, &image, &journal);
+    let mut beside = MemRig::new(alloc, &image, &journal)?;
+    let Ok(fresh) = Engine::open(alloc, &mut beside) else {
+        return Err(Fail::new("not opened"));
+    };
+    check_same(rt, engine.index(), fresh.index());
+    assert!(rt; fresh.map().runs()? == engine.map().runs()?);
+    Ok(())
+}
+
+#[test]
+fn an_engine_is_opened_again_after_an_addition(rt: HostRuntime) -> Result<(), Fail> {
+    let alloc = rt.alloc();
+    let mut rig = rig_of(alloc, &EMPTY)?;
+    let mut engine = added(alloc, &mut rig)?;
+    check_standing(&rt, &engine, 2304, 1);
+    check_reopened(&rt, alloc, &mut engine, &mut rig)?;
+    check_standing(&rt, &engine, 2304, 1);
     Ok(())
 }

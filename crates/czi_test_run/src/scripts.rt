@@ -1,9 +1,11 @@
 //! Tests of scripts: what they say and leave, and what an input or a journal that is wrong makes of them.
 
 use crate::devices::{NEVER, check_files, failing_rig};
-use crate::images::{Part, one_tile, put};
+use crate::images::{Part, one_tile};
 use crate::outcomes::{NO_TILES, ONE, TILE, check_said, outcome, outcome_over};
 use czi_rig::{File, MemRig};
+use czi_sample::changed;
+use czi_sample::places::*;
 use std::alloc::{AllocError, Global};
 use std::process::Abort;
 use std::test::Fail;
@@ -129,13 +131,6 @@ fn a_failed_input_stops_the_script(rt: HostRuntime) -> Result<(), Fail> {
     Ok(())
 }
 
-// The bytes, with others written over them.
-fn changed(alloc: Global, bytes: &[u8], part: Part) -> Result<Vec<u8>, AllocError> {
-    let mut changed = Vec::from_slice(alloc, bytes)?;
-    put(&mut changed, &[part]);
-    Ok(changed)
-}
-
 /// Nothing is written over a file.
 pub(crate) const NONE: Part = (0, b"");
 
@@ -147,17 +142,23 @@ static MISFITS: [Misfit; 6] = [
     (1000, NONE, NONE, 2, b"refused short 1000 1280\n"),
     (
         1280,
-        (64, &[0; 16]),
+        (FILE_GUID, &[0; 16]),
         NONE,
         2,
         b"refused foreign 00112233-4455-6677-8899-aabbccddeeff 00000000-0000-0000-0000-000000000000\n",
     ),
-    (1280, NONE, (262_208, &[9]), 2, b"refused version 9\n"),
-    (1280, NONE, (262_236, &[4]), 2, b"refused journal 262320\n"),
+    (1280, NONE, (SLOT_B, &[9]), 2, b"refused version 9\n"),
     (
         1280,
         NONE,
-        (262_228, &[111, 0]),
+        (SLOT_B + RECORD_COUNT, &[4]),
+        2,
+        b"refused journal 262320\n",
+    ),
+    (
+        1280,
+        NONE,
+        (SLOT_B + RECORD_LENGTH, &[111, 0]),
         2,
         b"refused journal 262228\n",
     ),
@@ -170,14 +171,13 @@ pub(crate) fn check_misfit(
     rig: &MemRig,
     (len, in_image, in_journal, status, said): &Misfit,
 ) -> Result<(), Fail> {
-    let mut image = changed(alloc, rig.content(File::Image), *in_image)?;
-    image.truncate(*len);
-    let journal = changed(alloc, rig.content(File::Journal), *in_journal)?;
+    let image = changed(alloc, rig.content(File::Image), *len, &[*in_image])?;
+    let journal = rig.content(File::Journal);
+    let journal = changed(alloc, journal, journal.len(), &[*in_journal])?;
     check_said(rt, alloc, "list", (&image, &journal), (*status, said))
 }
 
-// The journal counts after a script that breaks off. Slot B is selected, from 262208 on: its record is of version 1, and has
-// the GUID at 262212, the length 1280, at 262236 three links: of 32, 8 and 4 bytes.
+// The journal counts after a script that breaks off. Slot B is selected: its record has three links, of 32, 8 and 4 bytes.
 #[test]
 fn a_journal_that_counts_refuses_what_does_not_fit(rt: HostRuntime) -> Result<(), Fail> {
     let alloc = rt.alloc();

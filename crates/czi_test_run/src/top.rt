@@ -1,10 +1,12 @@
 //! Tests of the top call: its words, and what it says of images.
 
 use crate::devices::check_files;
-use crate::images::{Part, empty_document, one_tile};
-use crate::outcomes::{NO_TILES, ONE, TILE, check_said, outcome};
+use crate::images::{ONE_SUBBLOCK, PLAIN, TAILED};
+use crate::outcomes::{NO_TILES, ONE, TILE as LISTED, check_said, outcome};
 use crate::scripts::one_tile_rig;
 use czi_rig::MemRig;
+use czi_sample::places::*;
+use czi_sample::{Part, Segment, TILE, changed, image_of};
 use std::alloc::{AllocError, Global};
 use std::process::Abort;
 use std::test::Fail;
@@ -24,12 +26,17 @@ fn check_told(
     Ok(())
 }
 
-// What is said of the document without subblocks, with so many bytes and these changes.
-static TOLD: [(usize, &[Part], &str, &[u8]); 7] = [
-    (704, &[], "list", NO_TILES),
+const OTHER: &[Segment] = &[
+    Segment::Directory(0),
+    Segment::Foreign(b"OTHER\0\0\0\0\0\0\0\0\0\0\0", 0),
+    Segment::Raw(&[0; 4]),
+];
+
+// What is said of images.
+static TOLD: [(&[Segment], &str, &[u8]); 11] = [
+    (PLAIN, "list", NO_TILES),
     (
-        704,
-        &[],
+        PLAIN,
         "info",
         b"length 704\n\
         guid 00112233-4455-6677-8899-aabbccddeeff\n\
@@ -39,107 +46,67 @@ static TOLD: [(usize, &[Part], &str, &[u8]); 7] = [
         attachments 0\n\
         metadata none\n",
     ),
-    (804, &[(704, &[0xFF; 100])], "list", NO_TILES),
-    (704, &[], "map", b"length 704\nruns 0\nheld 0\n"),
-    (704, &[], "check", b"check live=2 runs=0 unknown=0 tail=0\n"),
+    (TAILED, "list", NO_TILES),
+    (PLAIN, "map", b"length 704\nruns 0\nheld 0\n"),
+    (PLAIN, "check", b"check live=2 runs=0 unknown=0 tail=0\n"),
+    (TAILED, "check", b"check live=2 runs=0 unknown=0 tail=100\n"),
+    (OTHER, "check", b"check live=2 runs=0 unknown=1 tail=4\n"),
+    (ONE_SUBBLOCK, "list", LISTED),
+    (ONE_SUBBLOCK, "info", ONE),
     (
-        804,
-        &[(704, &[0xFF; 100])],
-        "check",
-        b"check live=2 runs=0 unknown=0 tail=100\n",
+        ONE_SUBBLOCK,
+        "map",
+        b"length 1280\nruns 1\nrun 544 160\nheld 0\n",
     ),
     (
-        740,
-        &[(704, b"OTHER")],
+        ONE_SUBBLOCK,
         "check",
-        b"check live=2 runs=0 unknown=1 tail=4\n",
+        b"check live=3 runs=1 unknown=0 tail=0\n",
     ),
 ];
 
 #[test]
 fn images_are_listed_and_told_of(rt: HostRuntime) -> Result<(), Fail> {
-    let alloc = rt.alloc();
-    for (len, changes, command, said) in TOLD.iter() {
-        let image = empty_document(alloc, *len, changes)?;
-        check_told(&rt, alloc, &image, command, said)?;
+    for (segments, command, said) in TOLD.iter() {
+        let image = image_of(rt.alloc(), segments)?;
+        check_told(&rt, rt.alloc(), &image, command, said)?;
     }
-    check_tile_told(&rt, alloc)
+    Ok(())
 }
 
-fn check_tile_told(rt: &impl Abort, alloc: Global) -> Result<(), Fail> {
-    let image = one_tile(alloc, 1280, &[])?;
-    check_told(rt, alloc, &image, "list", TILE)?;
-    check_told(rt, alloc, &image, "info", ONE)?;
-    check_told(
-        rt,
-        alloc,
-        &image,
-        "map",
-        b"length 1280\nruns 1\nrun 544 160\nheld 0\n",
-    )?;
-    check_told(
-        rt,
-        alloc,
-        &image,
-        "check",
-        b"check live=3 runs=1 unknown=0 tail=0\n",
-    )
-}
+// Where the directory stands, and its second entry behind one of 92 bytes.
+const DIRECTORY: usize = 544;
 
-// The first rules that refuse the document without subblocks, with so many bytes and these changes.
-static REFUSED: [(usize, &[Part], &[u8]); 8] = [
-    (0, &[], b"refused notczi\n"),
-    (
-        704,
-        &[(80, &[0xFF; 4]), (100, &[1])],
-        b"refused multipart -1\n",
-    ),
-    (
-        704,
-        &[(100, &[1]), (576, &[0xFF; 4])],
-        b"refused pending 1\n",
-    ),
-    (600, &[], b"refused directory 544\n"),
-    (704, &[(576, &[1, 0, 16, 0])], b"refused many 544 1048577\n"),
-    (704, &[(576, &[1])], b"refused entry 704\n"),
-    (704, &[(104, &[0x20, 2])], b"refused attachment 544\n"),
-    (704, &[(92, &[0x20, 2])], b"refused segment 544\n"),
-];
+const ONE_DIRECTORY: usize = 1024;
 
-// Those that refuse the document with one subblock: its entry names another segment, or two entries name it.
-static TILE_REFUSED: [(usize, &[Part], &[u8]); 2] = [
-    (1280, &[(1190, &[0x20, 2])], b"refused segment 544\n"),
-    (
-        1376,
-        &[
-            (1040, &[0x40, 1]),
-            (1048, &[0x38, 1]),
-            (1056, &[2]),
-            (1276, b"DV"),
-            (1282, &[0xC0, 2]),
-            (1304, &[3]),
-            (
-                1308,
-                b"C\0\0\0\0\0\0\0\x01\0\0\0\0\0\0\0\x01\0\0\0X\0\0\0\0\0\0\0\x04\0\0\0\0\0\0\0\0\0\0\0Y\0\0\0\0\0\0\0\x02\0\0\0\0\0\0\0\x02",
-            ),
-        ],
-        b"refused overlap 704 320 704 320\n",
-    ),
+const TWO_DIRECTORY: usize = 1344;
+
+const SECOND: usize = ENTRIES + 92;
+
+const TWO: &[Segment] = &[Segment::Deleted(128), TILE, TILE, Segment::Directory(192)];
+
+// The first rules that refuse images in so many bytes, with these changes: of the last two, an entry names another segment, and
+// two entries name the same subblock.
+#[rattlefmt::skip]
+static REFUSED: [(&[Segment], usize, &[Part], &[u8]); 10] = [
+    (PLAIN, 0, &[], b"refused notczi\n"),
+    (PLAIN, 704, &[(FILE_PART, &[0xFF; 4]), (UPDATE_PENDING, &[1])], b"refused multipart -1\n"),
+    (PLAIN, 704, &[(UPDATE_PENDING, &[1]), (DIRECTORY + COUNT, &[0xFF; 4])], b"refused pending 1\n"),
+    (PLAIN, 600, &[], b"refused directory 544\n"),
+    (PLAIN, 704, &[(DIRECTORY + COUNT, &[1, 0, 16, 0])], b"refused many 544 1048577\n"),
+    (PLAIN, 704, &[(DIRECTORY + COUNT, &[1])], b"refused entry 704\n"),
+    (PLAIN, 704, &[(ATTACHMENTS_POSITION, &[0x20, 2])], b"refused attachment 544\n"),
+    (PLAIN, 704, &[(METADATA_POSITION, &[0x20, 2])], b"refused segment 544\n"),
+    (ONE_SUBBLOCK, 1280, &[(ONE_DIRECTORY + ENTRIES + POSITION, &[0x20, 2])], b"refused segment 544\n"),
+    (TWO, 1696, &[(TWO_DIRECTORY + SECOND + POSITION, &[0xC0, 2])], b"refused overlap 704 320 704 320\n"),
 ];
 
 #[test]
 fn images_are_refused_by_the_first_rule(rt: HostRuntime) -> Result<(), Fail> {
-    for (len, changes, said) in REFUSED.iter() {
-        let image = empty_document(rt.alloc(), *len, changes)?;
-        check_said(&rt, rt.alloc(), "list", (&image, b""), (2, said))?;
-    }
-    check_tile_refused(&rt, rt.alloc())
-}
-
-fn check_tile_refused(rt: &impl Abort, alloc: Global) -> Result<(), Fail> {
-    for (len, changes, said) in TILE_REFUSED.iter() {
-        let image = one_tile(alloc, *len, changes)?;
-        check_said(rt, alloc, "list", (&image, b""), (2, said))?;
+    let alloc = rt.alloc();
+    for (segments, len, changes, said) in REFUSED.iter() {
+        let image = changed(alloc, &image_of(alloc, segments)?, *len, changes)?;
+        check_said(&rt, alloc, "list", (&image, b""), (2, said))?;
     }
     Ok(())
 }
@@ -148,8 +115,7 @@ const USAGE: &[u8] = b"usage: czi_tool FILE COMMAND [name=value ...]\n";
 
 // A rig over the document without subblocks.
 fn empty_rig(alloc: Global) -> Result<MemRig, AllocError> {
-    let image = empty_document(alloc, 704, &[])?;
-    MemRig::new(alloc, &image, b"")
+    MemRig::new(alloc, &image_of(alloc, PLAIN)?, b"")
 }
 
 // Words that are no command.

@@ -2,71 +2,28 @@
 
 use crate::calls::{SELECTOR, check_crashes, number_of};
 use crate::devices::{NEVER, failing_rig};
-use crate::images::{Part, file, put_at};
 use crate::outcomes::{check_said, outcome};
 use czi_rig::{Call, File, MemRig};
+use czi_sample::{Sample, Segment, TILE};
 use std::alloc::{AllocError, Global};
 use std::process::Abort;
 use std::test::Fail;
 
-// What a document of 80 subblocks in 137,632 bytes has besides 79 of them: the first subblock at 544, with eight bytes of
-// pixels, and the directory at 71,648, whose entries stand from 71,808 on.
-static FRONT: [Part; 21] = [
-    (0, b"ZISRAWFILE"),
-    (16, &[0, 2]),
-    (24, &[0, 2]),
-    (32, &[1]),
-    (
-        64,
-        b"\x33\x22\x11\x00\x55\x44\x77\x66\x88\x99\xAA\xBB\xCC\xDD\xEE\xFF",
-    ),
-    (84, &[0xE0, 0x17, 1]),
-    (544, b"ZISRAWSUBBLOCK"),
-    (560, &[0x20, 1]),
-    (568, &[8, 1]),
-    (584, &[8]),
-    (592, b"DV"),
-    (598, &[0x20, 2]),
-    (620, &[3]),
-    (71_648, b"ZISRAWDIRECTORY"),
-    (71_664, &[0xA0, 1, 1]),
-    (71_672, &[0x9C, 1, 1]),
-    (71_680, &[80]),
-    (71_808, b"DV"),
-    (71_814, &[0x20, 2]),
-    (71_836, &[3]),
-    (
-        71_840,
-        b"C\0\0\0\0\0\0\0\x01\0\0\0\0\0\0\0\x01\0\0\0X\0\0\0\0\0\0\0\x04\0\0\0\0\0\0\0\0\0\0\0Y\0\0\0\0\0\0\0\x02\0\0\0\0\0\0\0\x02",
-    ),
-];
+// A subblock with 40 dimensions: its segment is 896 bytes long, and its entry 832.
+const OTHER: Segment = Segment::Tile(
+    b"A0,A0,A0,A0,A0,A0,A0,A0,A0,A0,A0,A0,A0,A0,A0,A0,A0,A0,A0,A0,A0,A0,A0,A0,A0,A0,A0,A0,A0,A0,A0,A0,A0,A0,A0,A0,A0,A0,A0,A0",
+    b"",
+);
 
-// The front of the entry of a subblock with 40 dimensions.
-fn entry_at(place: u64) -> [u8; 32] {
-    let mut entry = [0; 32];
-    entry[0..2].copy_from_slice(b"DV");
-    entry[6..14].copy_from_slice(&place.to_le_bytes());
-    entry[28] = 40;
-    entry
-}
-
-// Each of the other subblocks has 40 dimensions: its segment is 896 bytes long, and its entry 832.
-fn put_other(image: &mut Vec<u8>, i: u16) {
-    let at = 864 + 896 * usize::from(i);
-    let entry = entry_at(at as u64);
-    put_at(image, at, b"ZISRAWSUBBLOCK");
-    put_at(image, at + 16, &[0x60, 3]);
-    put_at(image, at + 24, &[0x50, 3]);
-    put_at(image, at + 48, &entry);
-    put_at(image, 71_900 + 832 * usize::from(i), &entry);
-}
-
+// A document of 80 subblocks in 137,632 bytes. The directory has room for four bytes more.
 fn document(alloc: Global) -> Result<Vec<u8>, AllocError> {
-    let mut image = file(alloc, 137_632, &FRONT, &[])?;
-    for i in 0..79 {
-        put_other(&mut image, i);
+    let mut sample = Sample::new(alloc)?;
+    sample.push(alloc, &TILE)?;
+    for _ in 0..79u8 {
+        sample.push(alloc, &OTHER)?;
     }
-    Ok(image)
+    sample.push(alloc, &Segment::Directory(92 + 79 * 832 + 4))?;
+    sample.build()
 }
 
 // What `info` says of the document first, and once the first subblock is removed.
