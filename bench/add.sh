@@ -1,7 +1,8 @@
 #!/usr/bin/env bash
 # Adds a tile of BYTES pixel bytes (64 MiB if not given) to a file of ten tiles, five times, and beside each run makes its reads,
-# writes and syncs once more by a C program (replay.c), from what strace told. Then adds a small tile to a file of TILES tiles
-# (1,000,000 if not given), another one, and replaces that; and counts the bytes that each of these writes to image and journal.
+# writes and syncs once more by a C program (replay.c), from what strace told; and the same for metadata of 16 MiB. Then adds a
+# small tile to a file of TILES tiles (1,000,000 if not given), another one, and replaces that; and counts the bytes that each of
+# these writes to image and journal.
 # usage: bench/add.sh [BYTES] [TILES]
 set -eu
 cd "$(dirname "$0")/.."
@@ -19,17 +20,23 @@ fresh() { # a copy of a file, without a journal, in the cache
     cat "$folder/again.czi" >/dev/null
 }
 
+compare() { # the script in large, five times, and each time its calls again by replay.c
+    fresh few
+    strace -f -y -s 0 -o "$folder/calls.txt" -e trace=read,pread64,pwrite64,fsync,ftruncate "$tool" "$folder/again.czi" edit <"$folder/large" >/dev/null
+    python3 bench/count_calls.py plan "$folder/calls.txt" >"$folder/plan.txt"
+    for turn in 1 2 3 4 5; do
+        fresh few
+        /usr/bin/time -f "$1 by czi_tool: %es (%Us user, %Ss system) %MKB" "$tool" "$folder/again.czi" edit <"$folder/large" >/dev/null
+        fresh few
+        /usr/bin/time -f "$1 by replay.c: %es (%Us user, %Ss system) %MKB" "$folder/replay" "$folder/plan.txt" "$folder/again.czi" "$folder/again.czi.jrn" <"$folder/large"
+    done
+}
+
 python3 bench/make_tiles.py "$folder/few.czi" 10
 { echo "add pixel=0 dims=C0,S0,X40000:8192,Y0:8192 meta=0 data=$bytes att=0"; head -c "$bytes" /dev/urandom; echo; } >"$folder/large"
-fresh few
-strace -f -y -s 0 -o "$folder/calls.txt" -e trace=read,pread64,pwrite64,fsync,ftruncate "$tool" "$folder/again.czi" edit <"$folder/large" >/dev/null
-python3 bench/count_calls.py plan "$folder/calls.txt" >"$folder/plan.txt"
-for turn in 1 2 3 4 5; do
-    fresh few
-    /usr/bin/time -f "czi_tool: %es (%Us user, %Ss system) %MKB" "$tool" "$folder/again.czi" edit <"$folder/large" >/dev/null
-    fresh few
-    /usr/bin/time -f "replay.c: %es (%Us user, %Ss system) %MKB" "$folder/replay" "$folder/plan.txt" "$folder/again.czi" "$folder/again.czi.jrn" <"$folder/large"
-done
+compare add
+{ echo "meta xml=16777216 att=0"; head -c 16777216 /dev/urandom; echo; } >"$folder/large"
+compare meta
 
 python3 bench/make_tiles.py "$folder/many.czi" "$tiles"
 for line in "add pixel=0 dims=C9,X0:4,Y0:2" "add pixel=0 dims=C10,X0:4,Y0:2" "replace pixel=1 dims=C10,X0:4,Y0:2"; do
