@@ -67,6 +67,9 @@ module _ (guid before journal : List ℕ) (same : slot_of journal ≡ slot_of be
   by_reading (OfVersion v) is = inr (of_version v, same ∙ is, is)
   by_reading (BadAt place) is = inr (bad_at place, same ∙ is, is)
 
+  pub beside_old : OpensOrRefused guid before [] journal
+  beside_old = by_reading (slot_of before) refl
+
 -- while the journal is sealed
 pub sealing_opens : (guid : List ℕ) (all : Devices) → all.image ≡ at_rest [] → IsAtRest all.journal → (image journal said : List ℕ)
     → Left all.image.durable image × SaysAsBeforeOrVoid all.journal.durable journal × (said ≡ all.said) → OpensOrRefused guid all.journal.seen image journal × (said ≡ all.said)
@@ -74,7 +77,7 @@ sealing_opens guid all empty rest i j o p =
     let none : i ≡ [] = left_seen all.image i (empty ∙ ap at_rest (sym (ap (λ (d : Disk). d.seen) empty))) p.0 ∙ ap (λ (d : Disk). d.seen) empty in
     let was : p.1.old ≡ all.journal.seen = left_seen all.journal p.1.old rest p.1.was in (
       subst (λ (x : List ℕ). OpensOrRefused guid all.journal.seen x j) (sym none)
-          (⊎_elim (λ same. by_reading guid all.journal.seen j (same ∙ ap slot_of was) (slot_of all.journal.seen) refl)
+          (⊎_elim (λ same. beside_old guid all.journal.seen j (same ∙ ap slot_of was))
           (λ void. no_front_refused guid all.journal.seen [] j void (short_refused [] (omega arith))) p.1.same),
       p.2,
     )

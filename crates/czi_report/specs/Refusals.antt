@@ -25,6 +25,10 @@ cause_text (too_short have need) = numbers_line (codes "refused short ") have ne
 cause_text (of_another journal image) = codes "refused foreign " ++ (guid_text journal ++ (codes " " ++ (guid_text image ++ line_feed)))
 cause_text (unread refusal) = refusal_text refusal
 
+-- an image of so many bytes, in which no document is created: it has to be empty
+unfoldable pub not_empty_text : ℕ → List ℕ
+not_empty_text length = number_line (codes "refused notempty ") length
+
 -- the line of what an opening's error tells; a fault of a device and want of memory have none
 abbrev pub told_text : Option Cause → List ℕ
 told_text None = []

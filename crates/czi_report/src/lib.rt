@@ -18,7 +18,7 @@ pub use counts::check;
 pub use details::info;
 pub use laws::texts_of_a_state;
 pub use listing::list;
-pub use refusal::push_cause;
+pub use refusal::{push_cause, push_not_empty};
 pub use reply::{
     push_no_duplicate, push_no_full, push_no_key, push_no_long, push_no_many, push_ok,
 };

@@ -1,4 +1,4 @@
-//! Why an image isn't opened, as a line of text.
+//! Why an image isn't opened, or isn't taken for a new document, as a line of text.
 
 ghost use Rattle.std.specs.Prelude.{◌≡◌, ◌++◌, OnOk, OnErr};
 ghost use Rattle.czi_doc.specs.Grows.{Grows};
@@ -6,7 +6,7 @@ ghost use Rattle.czi_format.specs.Refusals.{overlap, too_many};
 ghost use Rattle.czi_num.specs.Span.{span_of};
 ghost use Rattle.czi_opening.specs.Answers.{cause_of, refusal_of};
 ghost use Rattle.czi_opening.specs.Opens.{of_another};
-ghost use Rattle.czi_report.specs.Refusals.{cause_text, refusal_text, told_text};
+ghost use Rattle.czi_report.specs.Refusals.{cause_text, not_empty_text, refusal_text, told_text};
 
 use crate::text::{end_with_number, end_with_numbers, push_guid, push_number, push_span};
 use czi_num::Span;
@@ -33,6 +33,15 @@ pub fn push_cause(error: &OpenError, out: &mut Vec<u8>) -> Result<(), AllocError
         OpenError::Refused(refusal) => push_refusal(&refusal, out),
         OpenError::ImageDevice | OpenError::JournalDevice | OpenError::Memory => Ok(()),
     }
+}
+
+/// Appends the line of an image of so many bytes in which no document is created: it has to be empty.
+#[tactic(auto, unfolding(crate::specs::Refusals::not_empty_text))]
+pub fn push_not_empty(length: u64, out: &mut Vec<u8>) -> Result<(), AllocError>
+    ensures ok { OnOk result (out.new.items ≡ out.old.items ++ not_empty_text length) }
+    ensures err { OnErr result (Grows out.old.items out.new.items) }
+{
+    end_with_number(b"refused notempty ", length, out)
 }
 
 /// Appends the line of the rule of reading that refuses the image.

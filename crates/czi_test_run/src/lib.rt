@@ -10,6 +10,8 @@ mod calls;
 #[cfg(test)]
 mod counter;
 #[cfg(test)]
+mod creating;
+#[cfg(test)]
 mod devices;
 #[cfg(test)]
 mod engine;

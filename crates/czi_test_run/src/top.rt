@@ -119,7 +119,7 @@ fn empty_rig(alloc: Global) -> Result<MemRig, AllocError> {
 }
 
 // Words that are no command.
-static OTHER_WORDS: [&[&str]; 9] = [
+static OTHER_WORDS: [&[&str]; 15] = [
     &[],
     &["F"],
     &["", "list"],
@@ -129,6 +129,12 @@ static OTHER_WORDS: [&[&str]; 9] = [
     &["F", "frob"],
     &["F", "listing"],
     &["F", "list", "x=1"],
+    &["F", "create"],
+    &["F", "create", "guid="],
+    &["F", "create", "guid=0011"],
+    &["F", "create", "GUID=00112233-4455-6677-8899-aabbccddeeff"],
+    &["F", "create", "guid=00112233-4455-6677-8899-aabbccddeeff", "x=1"],
+    &["F", "list", "--"],
 ];
 
 fn check_usage(rt: &impl Abort, alloc: Global, words: &[&str]) -> Result<(), Fail> {

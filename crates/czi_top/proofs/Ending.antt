@@ -1,5 +1,6 @@
 -- How a run of the program ends.
-use Rattle.std.proofs.Common.{◌≡◌, ◌⊎◌, inl, inr, ⊎_elim, ℕ, List, ◌++◌, take, Some, refl, sym, ap, ◌∙◌, subst, arith}
+use Rattle.std.proofs.Common.{◌≡◌, ◌⊎◌, inl, inr, ⊎_elim, ℕ, List, ◌++◌, take, Option, Some, refl, sym, ap, ◌∙◌, subst, arith, zero-le}
+use Rattle.std.specs.Option.{ForSome}
 use Rattle.std.specs.Prelude.{option_map}
 use Rattle.czi_rig.specs.State.{State}
 use Rattle.czi_rig.specs.Faults.{Faults, FaultsWith}
@@ -10,8 +11,29 @@ use Rattle.czi_session.specs.Ends.{Answers, Quiet, SaysRefusal}
 use Rattle.czi_session.specs.Stops.{EndsOpening, end_device}
 use Rattle.czi_editor.specs.Machine.{Begun}
 use Rattle.czi_editor.specs.Replies.{still}
-use Rattle.czi_top.specs.Words.{Query, list, info, map, check, step}
-use Rattle.czi_top.specs.Run.{MayBeUnopened, SaysLine, SaysUsage, code_of, status_device}
+use Rattle.czi_top.specs.Words.{Query, list, info, map, check, step, query, edit, Command, opening, create}
+use Rattle.czi_top.specs.View.{action_view, command_view}
+use Rattle.czi_top.specs.declared.words.Action.{Action as CodeAction}
+use Rattle.czi_top.specs.declared.words.Command.{Command as CodeCommand}
+use Rattle.czi_top.specs.declared.words.Command.TheVariants.{Open, Create}
+use Rattle.czi_top.specs.Run.{MayBeUnopened, SaysLine, SaysUsage, TakesByStatus, code_of, status_device}
+
+-- the words that were read ask for an image to be opened
+pub asks_to_open : (found : Option CodeCommand) (asked : Option Command) (action : CodeAction) → option_map command_view found ≡ asked → found ≡ Some (Open action) → asked ≡ Some (opening (action_view action))
+asks_to_open found asked action is found_is = sym is ∙ ap (option_map command_view) found_is
+
+-- or for a document to be created
+pub asks_to_create : (found : Option CodeCommand) (asked : Option Command) (guid : List ℕ) → option_map command_view found ≡ asked → found ≡ Some (Create guid) → asked ≡ Some (create guid)
+asks_to_create found asked guid is made = sym is ∙ ap (option_map command_view) made
+
+-- where memory was wanting for the words nothing was taken
+pub unread_takes : (asked : Option Command) (left : Option (List ℕ)) → ForSome asked (λ command. TakesByStatus command left left 8)
+unread_takes asked left = λ command is. takes command
+  where
+    takes : (command : Command) → TakesByStatus command left left 8
+    takes (opening (query q)) = refl
+    takes (opening edit) = (Stopped Memory, refl, record { count = 0; few = zero-le; inside = λ bytes is. zero-le; rest = λ bytes is. is })
+    takes (create guid) = refl
 
 -- no fault came, also none of an input that isn't read
 pub quiet_alone : {old new : State} {before now : ℕ} → Quiet old new before now → Quiet old new 0 0
@@ -20,6 +42,21 @@ quiet_alone q = record { image = q.image; journal = q.journal; output = q.output
 -- the status of the wanted end, or of a want of memory
 pub answers_code : (wanted ended : Ended) (status : ℕ) → status ≡ code_of ended → Answers wanted ended → (status ≡ code_of wanted) ⊎ (status ≡ 8)
 answers_code wanted ended status is answers = ⊎_elim (λ e. inl (is ∙ ap (λ x. code_of x) e)) (λ e. inr (is ∙ ap (λ x. code_of x) e)) answers
+
+-- the status of a refusal is no other's
+two_is_refused : (ended : Ended) → code_of ended ≡ 2 → ended ≡ Refused
+two_is_refused Done is = cc
+two_is_refused Refused is = refl
+two_is_refused (Stopped (Script number kind)) is = cc
+two_is_refused (Stopped Image) is = cc
+two_is_refused (Stopped Journal) is = cc
+two_is_refused (Stopped Output) is = cc
+two_is_refused (Stopped Input) is = cc
+two_is_refused (Stopped Memory) is = cc
+two_is_refused (Stopped TooLong) is = cc
+
+pub is_refused : (ended : Ended) (status : ℕ) → status ≡ code_of ended → status ≡ 2 → ended ≡ Refused
+is_refused ended status is two = two_is_refused ended (sym is ∙ two)
 
 -- the status tells the device
 device_of_code : (ended : Ended) → end_device ended ≡ status_device (code_of ended)

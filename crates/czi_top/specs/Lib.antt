@@ -1,3 +1,5 @@
 pub mod Words
+pub mod Arguments
 pub mod View
 pub mod Run
+pub mod Creates

@@ -12,15 +12,31 @@ use Rattle.czi_session.specs.declared.stop.Ended.{Ended}
 use Rattle.czi_session.specs.declared.stop.Ended.TheVariants.{Done, Refused, Stopped}
 use Rattle.czi_session.specs.declared.stop.Stop.TheVariants.{Script, Image, Journal, Output, Input, Memory, TooLong}
 use Rattle.czi_editor.specs.Machine.{Begun, IsRefused, the_machine}
-use Rattle.czi_top.specs.Words.{Command, query, edit, step}
+use Rattle.czi_top.specs.Words.{Action, query, edit, Command, opening, create, step}
 
 -- what is said where the words are no command
 unfoldable pub usage : List ℕ
 usage = codes "usage: czi_tool FILE COMMAND [name=value ...]" ++ 10 ∷ []
 
+-- the words ask for an image to be opened, and this is so of what is done with it
+abbrev pub IfOpens : Option Command → (Action → Type 0) → Type 0
+IfOpens None P = Unit {0}
+IfOpens (Some (opening action)) P = P action
+IfOpens (Some (create guid)) P = Unit {0}
+
+-- they ask for a document to be created, and this is so of its GUID
+abbrev pub IfCreates : Option Command → (List ℕ → Type 0) → Type 0
+IfCreates None P = Unit {0}
+IfCreates (Some (opening action)) P = Unit {0}
+IfCreates (Some (create guid)) P = P guid
+
+-- Memory was wanting for the words themselves, and nothing was done.
+abbrev pub Unread : {D I : Type 0} → (old new : D) → (before now : I) → ℕ → Type 0
+Unread old new before now status = (status ≡ 8) × (new ≡ old) × (now ≡ before)
+
 -- The commands of a run, and how they end: a query is the script of that one line; `edit` runs the script that the input
 -- gives.
-abbrev pub Asks : Command → Option (List ℕ) → List Step → End → Type 0
+abbrev pub Asks : Action → Option (List ℕ) → List Step → End → Type 0
 Asks (query q) left cs end = (cs ≡ step q ∷ []) × (end ≡ Finished)
 Asks edit left cs end = (input : List ℕ) × (left ≡ Some input) × Reads 1 input cs end
 
@@ -37,34 +53,35 @@ code_of (Stopped Memory) = 8
 code_of (Stopped TooLong) = 9
 
 -- What stands and was said where a run ends that began at a state: `left` is what the input had left, `now` what it has left.
-abbrev pub EndsAt : Command → State → (left now : Option (List ℕ)) → Begun → List ℕ → Ended → Type 0
+abbrev pub EndsAt : Action → State → (left now : Option (List ℕ)) → Begun → List ℕ → Ended → Type 0
 EndsAt (query q) state left now b said ended = OneEnds the_machine state b (step q) said ended
 EndsAt edit state left now b said ended = (cs : List Step) (end : End) (input : List ℕ) → left ≡ Some input → Reads 1 input cs end → EndsOpened the_machine state now b cs end said input ended
 
 -- a query ends in no fault of a script or the input
-abbrev pub IsAlone : Command → Ended → Type 0
+abbrev pub IsAlone : Action → Ended → Type 0
 IsAlone (query q) ended = EndsAlone ended
 IsAlone edit ended = Unit {0}
 
 -- it ended with this status
-pub record EndsWith (command : Command) (old new : State) (left now : Option (List ℕ)) (status : ℕ) : Type 0 where
+pub record EndsWith (action : Action) (old new : State) (left now : Option (List ℕ)) (status : ℕ) : Type 0 where
   pub ended : Ended
   pub status_is : status ≡ code_of ended
-  pub alone : IsAlone command ended
-  pub at : (said : List ℕ) (b : Begun) → Opening the_machine old said b → EndsAt command new left now b said ended
+  pub alone : IsAlone action ended
+  pub at : (said : List ℕ) (b : Begun) → Opening the_machine old said b → EndsAt action new left now b said ended
 
 -- what is taken of the input: nothing but by `edit`
-abbrev pub TakesByEnd : Command → (left now : Option (List ℕ)) → Ended → Type 0
+abbrev pub TakesByEnd : Action → (left now : Option (List ℕ)) → Ended → Type 0
 TakesByEnd (query q) left now ended = now ≡ left
 TakesByEnd edit left now ended = TakesAtMost left now (most_of ended)
 
 -- the same, told by the status
 abbrev pub TakesByStatus : Command → (left now : Option (List ℕ)) → ℕ → Type 0
-TakesByStatus (query q) left now status = now ≡ left
-TakesByStatus edit left now status = (ended : Ended) × (status ≡ code_of ended) × TakesAtMost left now (most_of ended)
+TakesByStatus (opening (query q)) left now status = now ≡ left
+TakesByStatus (opening edit) left now status = (ended : Ended) × (status ≡ code_of ended) × TakesAtMost left now (most_of ended)
+TakesByStatus (create guid) left now status = now ≡ left
 
 -- the script is one that ends well, and not too long
-abbrev pub EndsWell : Command → Option (List ℕ) → Type 0
+abbrev pub EndsWell : Action → Option (List ℕ) → Type 0
 EndsWell (query q) left = Unit {0}
 EndsWell edit left = (cs : List Step) × (input : List ℕ) × (left ≡ Some input) × Reads 1 input cs Finished × (length input ≤ 2 ^ 40)
 
@@ -103,10 +120,10 @@ abbrev pub LooksOnly : {D : Type 0} → Ghosts D → D → D → Step → List �
 LooksOnly rig old new c said b ended = OpeningEnds the_machine (rig.state new) b said ended
     ⊎ (OnlyReads rig old new the_machine said (the_machine.reply b c) b (the_machine.after b c) × (ended ≢ Stopped Image))
 
-abbrev pub Looks : {D : Type 0} → Ghosts D → D → D → Command → List ℕ → Begun → Ended → Type 0
+abbrev pub Looks : {D : Type 0} → Ghosts D → D → D → Action → List ℕ → Begun → Ended → Type 0
 Looks rig old new (query q) said b ended = LooksOnly rig old new (step q) said b ended
 Looks rig old new edit said b ended = Unit {0}
 
 -- the same, told by the status
-abbrev pub LooksWith : {D : Type 0} → Ghosts D → D → D → Command → List ℕ → Begun → ℕ → Type 0
-LooksWith rig old new command said b status = (ended : Ended) × (status ≡ code_of ended) × Looks rig old new command said b ended
+abbrev pub LooksWith : {D : Type 0} → Ghosts D → D → D → Action → List ℕ → Begun → ℕ → Type 0
+LooksWith rig old new action said b status = (ended : Ended) × (status ≡ code_of ended) × Looks rig old new action said b ended

@@ -1,9 +1,11 @@
 -- What the program's types stand for.
 use Rattle.czi_top.specs.declared.words.Query.{Query as CodeQuery}
 use Rattle.czi_top.specs.declared.words.Query.TheVariants.{List, Info, Map, Check}
+use Rattle.czi_top.specs.declared.words.Action.{Action as CodeAction}
+use Rattle.czi_top.specs.declared.words.Action.TheVariants.{Query as QueryOf, Edit}
 use Rattle.czi_top.specs.declared.words.Command.{Command as CodeCommand}
-use Rattle.czi_top.specs.declared.words.Command.TheVariants.{Query as QueryOf, Edit}
-use Rattle.czi_top.specs.Words.{Command, Query, list, info, map, check, query, edit}
+use Rattle.czi_top.specs.declared.words.Command.TheVariants.{Open, Create}
+use Rattle.czi_top.specs.Words.{Query, list, info, map, check, Action, query, edit, Command, opening, create}
 
 abbrev pub query_view : CodeQuery → Query
 query_view List = list
@@ -11,6 +13,10 @@ query_view Info = info
 query_view Map = map
 query_view Check = check
 
+abbrev pub action_view : CodeAction → Action
+action_view (QueryOf q) = query (query_view q)
+action_view Edit = edit
+
 abbrev pub command_view : CodeCommand → Command
-command_view (QueryOf q) = query (query_view q)
-command_view Edit = edit
+command_view (Open action) = opening (action_view action)
+command_view (Create guid) = create guid

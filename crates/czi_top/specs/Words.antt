@@ -1,5 +1,8 @@
 -- The words of the command line.
-use Rattle.std.specs.Prelude.{ℕ, List, [], ◌∷◌, Bool, true, false, not, ◌&&◌, ◌==◌, Option, Some, None, codes, bytes_eq, if◌then◌else◌}
+use Rattle.std.specs.Prelude.{ℕ, List, [], ◌∷◌, Bool, true, false, not, ◌&&◌, ◌==◌, Option, Some, None, option_map, option_and_then, codes, bytes_eq, length, take, drop, if◌then◌else◌}
+use Rattle.std.specs.List.{list_all}
+use Rattle.uuid.specs.Text.{parsed}
+use Rattle.czi_format.specs.Bytes.{stored_order}
 use Rattle.czi_script.specs.Script.{Command as Step, Listing, Info, Map, Check}
 
 -- What can be asked of an image: to list its subblocks, to tell of it, to map its free space, or to count its segments.
@@ -9,10 +12,16 @@ pub data Query : Type 0 where
   map : Query
   check : Query
 
--- What words ask for: a query, or to run the script that the input gives.
+-- What is done with an image that is opened: to answer a query, or to run the script that the input gives.
+pub data Action : Type 0 where
+  query : Query → Action
+  edit : Action
+
+-- What words ask for: to open the image and do something with it, or to create the empty document with a GUID, in its stored
+-- order.
 pub data Command : Type 0 where
-  query : Query → Command
-  edit : Command
+  opening : Action → Command
+  create : List ℕ → Command
 
 -- the query as a command of a script
 abbrev pub step : Query → Step
@@ -31,19 +40,44 @@ abbrev pub is_blank : List ℕ → Bool
 is_blank [] = true
 is_blank (b ∷ rest) = false
 
--- the command of this name
-abbrev pub named : List ℕ → Option Command
-named word =
-    if bytes_eq word (codes "list") then Some (query list)
-    else if bytes_eq word (codes "info") then Some (query info)
-    else if bytes_eq word (codes "map") then Some (query map)
-    else if bytes_eq word (codes "check") then Some (query check)
-    else if bytes_eq word (codes "edit") then Some edit
+-- what is done under this name
+abbrev pub action_named : List ℕ → Option Action
+action_named name =
+    if bytes_eq name (codes "list") then Some (query list)
+    else if bytes_eq name (codes "info") then Some (query info)
+    else if bytes_eq name (codes "map") then Some (query map)
+    else if bytes_eq name (codes "check") then Some (query check)
+    else if bytes_eq name (codes "edit") then Some edit
     else None
 
--- The command that the words ask for: a file, which isn't empty and doesn't begin with a dash, and the name of a command.
+-- it has no fields
+abbrev pub action_of : List ℕ → List (List ℕ) → Option Action
+action_of name [] = action_named name
+action_of name (field ∷ fields) = None
+
+-- the value of a field that begins with this mark
+abbrev pub value_behind : List ℕ → List ℕ → Option (List ℕ)
+value_behind mark field = if bytes_eq (take (length mark) field) mark then Some (drop (length mark) field) else None
+
+-- the GUID, in its stored order, that the text names
+abbrev pub guid_by : List ℕ → Option (List ℕ)
+guid_by text = option_map stored_order (parsed text)
+
+-- the GUID that the only field names
+abbrev pub guid_in : List (List ℕ) → Option (List ℕ)
+guid_in [] = None
+guid_in (field ∷ []) = option_and_then guid_by (value_behind (codes "guid=") field)
+guid_in (field ∷ more ∷ fields) = None
+
+-- the command of this name with these fields
+abbrev pub command_named : List ℕ → List (List ℕ) → Option Command
+command_named name fields =
+    if bytes_eq name (codes "create") then option_map (λ guid. create guid) (guid_in fields)
+    else option_map (λ action. opening action) (action_of name fields)
+
+-- The command that the words ask for: a file, which isn't empty, the name of a command, and its fields. No word begins with a
+-- dash.
 abbrev pub command_of : List (List ℕ) → Option Command
 command_of [] = None
 command_of (file ∷ []) = None
-command_of (file ∷ word ∷ []) = if not (is_blank file) && is_plain file then named word else None
-command_of (file ∷ word ∷ more ∷ rest) = None
+command_of (file ∷ name ∷ fields) = if not (is_blank file) && list_all is_plain (file ∷ name ∷ fields) then command_named name fields else None

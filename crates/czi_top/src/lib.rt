@@ -1,6 +1,8 @@
 //! The program: what the words of the command line ask for, done over a rig and an input.
 #![tactic(auto)]
 
+mod arguments;
+mod creating;
 mod top;
 mod words;
 

@@ -1,7 +1,11 @@
 // The words of the command line.
-ghost use Rattle.std.specs.Prelude.{◌≡◌, map, option_map, string_bytes};
-ghost use Rattle.czi_top.specs.View.{command_view};
-ghost use Rattle.czi_top.specs.Words.{command_of, is_plain, named};
+ghost use Rattle.std.specs.Prelude.{◌≡◌, IfOk, map, option_map, string_bytes};
+ghost use Rattle.czi_top.specs.View.{action_view, command_view};
+ghost use Rattle.czi_top.specs.Words.{action_named, action_of, command_named, command_of, guid_by, guid_in, value_behind};
+
+use crate::arguments::read_arguments;
+use std::alloc::{AllocError, Global};
+use uuid::Uuid;
 
 /// What can be asked of an image.
 #[derive(Clone, Copy, PartialEq, Eq)]
@@ -16,56 +20,102 @@ pub(crate) enum Query {
     Check,
 }
 
-/// What the words ask for.
+/// What is done with an image that is opened.
 #[derive(Clone, Copy, PartialEq, Eq)]
-pub(crate) enum Command {
-    /// An answer to a query.
+pub(crate) enum Action {
+    /// A query is answered.
     Query(Query),
-    /// The script that the input gives is to be run.
+    /// The script that the input gives is run.
     Edit,
 }
 
-/// Doesn't begin with a dash.
-fn is_plain(word: &str) -> bool
-    ensures { result ≡ is_plain word.now }
-{
-    match word.as_bytes() {
-        [first, ..] => *first != b'-',
-        [] => true,
-    }
+/// What the words ask for.
+#[derive(Clone, Copy, PartialEq, Eq)]
+pub(crate) enum Command {
+    /// The image is to be opened, and this to be done with it.
+    Open(Action),
+    /// The empty document with this GUID, in its stored order, is to be created.
+    Create([u8; 16]),
 }
 
-/// The command of this name.
-fn named(word: &str) -> Option<Command>
-    ensures { option_map command_view result ≡ named word.now }
+/// What is done under this name.
+fn action_named(name: &str) -> Option<Action>
+    ensures { option_map action_view result ≡ action_named name.now }
 {
-    if word == "list" {
-        Some(Command::Query(Query::List))
-    } else if word == "info" {
-        Some(Command::Query(Query::Info))
-    } else if word == "map" {
-        Some(Command::Query(Query::Map))
-    } else if word == "check" {
-        Some(Command::Query(Query::Check))
-    } else if word == "edit" {
-        Some(Command::Edit)
+    if name == "list" {
+        Some(Action::Query(Query::List))
+    } else if name == "info" {
+        Some(Action::Query(Query::Info))
+    } else if name == "map" {
+        Some(Action::Query(Query::Map))
+    } else if name == "check" {
+        Some(Action::Query(Query::Check))
+    } else if name == "edit" {
+        Some(Action::Edit)
     } else {
         None
     }
 }
 
-/// The command that the words ask for: a file, which isn't empty and doesn't begin with a dash, and the name of a command.
-pub(crate) fn command_of(words: &[String]) -> Option<Command>
-    ensures { option_map command_view result ≡ command_of (map (λ s. string_bytes s) words.now) }
+/// What is done under this name with these fields: it has none.
+fn action_of(name: &str, fields: &[&str]) -> Option<Action>
+    ensures { option_map action_view result ≡ action_of name.now (map (λ s. s.now) fields.now) }
 {
-    match words {
-        [file, word] => {
-            if !file.is_empty() && is_plain(file.as_str()) {
-                named(word.as_str())
-            } else {
-                None
-            }
-        }
+    match fields {
+        [] => action_named(name),
         _ => None,
+    }
+}
+
+/// The value of a field that begins with this mark.
+fn value_behind<'a>(mark: &[u8], field: &'a str) -> Option<&'a [u8]>
+    ensures { option_map (λ v. v.now) result ≡ value_behind mark.now field.now }
+{
+    field.as_bytes().strip_prefix(mark)
+}
+
+/// The GUID, in its stored order, that the text names. None exactly where `uuid` doesn't read the text.
+fn guid_by(text: &[u8]) -> Option<[u8; 16]>
+    ensures { result ≡ guid_by text.now }
+{
+    match Uuid::try_parse_ascii(text) {
+        Ok(id) => Some(id.to_bytes_le()),
+        Err(_) => None,
+    }
+}
+
+/// The GUID that the only field names.
+fn guid_in(fields: &[&str]) -> Option<[u8; 16]>
+    ensures { result ≡ guid_in (map (λ s. s.now) fields.now) }
+{
+    match fields {
+        [field] => guid_by(value_behind(b"guid=", field)?),
+        _ => None,
+    }
+}
+
+/// The command of this name with these fields.
+fn command_named(name: &str, fields: &[&str]) -> Option<Command>
+    ensures { option_map command_view result ≡ command_named name.now (map (λ s. s.now) fields.now) }
+{
+    if name == "create" {
+        guid_in(fields).map(Command::Create)
+    } else {
+        action_of(name, fields).map(Command::Open)
+    }
+}
+
+/// The command that the words ask for: a file, which isn't empty, the name of a command, and its fields. No word begins
+/// with a dash.
+///
+/// # Errors
+///
+/// Where memory is wanting.
+pub(crate) fn command_of(alloc: Global, words: &[String]) -> Result<Option<Command>, AllocError>
+    ensures { IfOk result (λ command. option_map command_view command ≡ command_of (map (λ s. string_bytes s) words.now)) }
+{
+    match read_arguments(alloc, words)? {
+        Some(found) => Ok(command_named(found.name, &found.fields)),
+        None => Ok(None),
     }
 }
