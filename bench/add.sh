@@ -20,15 +20,24 @@ fresh() { # a copy of a file, without a journal, in the cache
     cat "$folder/again.czi" >/dev/null
 }
 
+timed() { # runs the rest of the words over the script, and tells milliseconds by the clock, and seconds of work and peak memory
+    local who=$1 start end
+    shift
+    start=${EPOCHREALTIME/./}
+    /usr/bin/time -o "$folder/used" -f "%Us user, %Ss system, %MKB" "$@" <"$folder/large" >/dev/null
+    end=${EPOCHREALTIME/./}
+    echo "$who: $(((end - start) / 1000)) ms, $(cat "$folder/used")"
+}
+
 compare() { # the script in large, five times, and each time its calls again by replay.c
     fresh few
     strace -f -y -s 0 -o "$folder/calls.txt" -e trace=read,pread64,pwrite64,fsync,ftruncate "$tool" "$folder/again.czi" edit <"$folder/large" >/dev/null
     python3 bench/count_calls.py plan "$folder/calls.txt" >"$folder/plan.txt"
     for turn in 1 2 3 4 5; do
         fresh few
-        /usr/bin/time -f "$1 by czi_tool: %es (%Us user, %Ss system) %MKB" "$tool" "$folder/again.czi" edit <"$folder/large" >/dev/null
+        timed "$1 by czi_tool" "$tool" "$folder/again.czi" edit
         fresh few
-        /usr/bin/time -f "$1 by replay.c: %es (%Us user, %Ss system) %MKB" "$folder/replay" "$folder/plan.txt" "$folder/again.czi" "$folder/again.czi.jrn" <"$folder/large"
+        timed "$1 by replay.c" "$folder/replay" "$folder/plan.txt" "$folder/again.czi" "$folder/again.czi.jrn"
     done
 }
 
