@@ -22,7 +22,7 @@ use Rattle.czi_machine.proofs.Ranges.{not_same, not_same', range_into, range_out
 use Rattle.czi_plan.specs.Changing.{back_entries, entries_in, front_entries, middle_entries, size_of, stays_behind, tiles_before, tiles_behind, tiles_brought, tiles_leaving}
 use Rattle.czi_plan.specs.Directory.{as_long_in, back_in, middle_in}
 use Rattle.czi_plan.specs.Kind.{Kind}
-use Rattle.czi_plan.specs.Listing.{entries_len, size_in}
+use Rattle.czi_plan.specs.Listing.{size_in}
 use Rattle.czi_plan.proofs.Entries.{size_both}
 
 out_parts : {Y : Type 0} (i : ℕ) (ys : List Y) → ys ≡ take i ys ++ (take 1 (drop i ys) ++ drop (i + 1) ys)

@@ -1,5 +1,5 @@
 -- The entries of an attachment directory after an act.
-use Rattle.std.proofs.Common.{◌≡◌, ◌≢◌, ℕ, ◌+◌, ◌*◌, List, [], ◌∷◌, ◌++◌, map, length, sum, true, false, flat_map, refl, ap, sym, ◌∙◌, arith, pos, replicate, append_assoc, append-nil, length-append, get_or, take, drop, ◌<◌, ◌≤◌, suc, subst, Ok, ◌||◌, nat_lt}
+use Rattle.std.proofs.Common.{◌≡◌, ◌≢◌, ℕ, ◌+◌, ◌*◌, List, [], ◌∷◌, ◌++◌, map, length, sum, true, false, flat_map, refl, ap, sym, ◌∙◌, arith, pos, replicate, append_assoc, append-nil, length-append, get_or, take, drop, ◌<◌, ◌≤◌, subst, Ok, ◌||◌, nat_lt}
 use Rattle.std.specs.List.{AllByRecursion}
 use Rattle.std.proofs.lemmas.Bool.{eq-eqb, ne_eqb}
 use Rattle.std.proofs.lemmas.List.{drop-replicate, length-drop, length-take-le, length-map, length-replicate, map-append}

@@ -1,5 +1,5 @@
 -- The plan of an act on the subblocks: what is used, freed and written, and that it can be carried out.
-use Rattle.std.proofs.Common.{◌≡◌, ℕ, ◌+◌, ◌≤◌, ◌^◌, List, [], ◌∷◌, ◌++◌, map, length, true, false, Bool, Option, Some, None, option_map, option_to_list, refl, ap, sym, ◌∙◌, subst, arith, append-nil, max, ◌-◌}
+use Rattle.std.proofs.Common.{◌≡◌, ℕ, ◌+◌, ◌≤◌, List, [], ◌∷◌, ◌++◌, map, length, true, false, Bool, Option, Some, None, option_map, option_to_list, refl, ap, sym, ◌∙◌, subst, arith, max}
 use Rattle.std.specs.List.{AllByRecursion, list_any}
 use Rattle.czi_format.specs.Space.{deleted_after, with_all_freed, with_freed, without, use_all}
 use Rattle.czi_format.specs.Span.{AreDisjoint, Span, end_of, is_aligned, meets, span_le, sorted, IsWhole}

@@ -1,22 +1,21 @@
 -- Where everything lies after the plan of an act on the subblocks and what leaves, and what the plan is to the machine.
-use Rattle.std.proofs.Common.{◌≡◌, ℕ, zero, suc, [], ◌∷◌, true, false, Option, Some, None, option_map, Ok, refl, ap, sym, ◌∙◌, subst, ◌+◌, ◌<◌, ◌≤◌, List, ◌++◌, map, length, sum, ◌&&◌, ◌||◌, option_to_list, append-nil, arith, filter, ◌==◌, nat_lt, if◌then◌else◌, not, Bool, inl}
+use Rattle.std.proofs.Common.{◌≡◌, ℕ, zero, suc, [], ◌∷◌, true, false, Option, Some, None, option_map, Ok, refl, ap, sym, ◌∙◌, subst, ◌+◌, ◌<◌, ◌≤◌, List, ◌++◌, map, length, sum, ◌||◌, option_to_list, arith, filter, ◌==◌, nat_lt, not, Bool}
 use Rattle.std.specs.List.{AllByRecursion, list_any}
-use Rattle.std.proofs.lemmas.List.{length-map, map-append}
+use Rattle.std.proofs.lemmas.List.{map-append}
 use Rattle.std.specs.Bool.{⊤}
 use Rattle.czi_format.specs.Layout.{Layout, Place}
-use Rattle.czi_format.specs.Segment.{extent, Segment}
+use Rattle.czi_format.specs.Segment.{extent}
 use Rattle.czi_format.specs.Space.{Space, fit, use_span, deleted_after, with_all_freed, without, same_span, use_all}
-use Rattle.czi_format.specs.Span.{Span, round32, span_le, sorted, end_of}
+use Rattle.czi_format.specs.Span.{Span, round32, end_of}
 use Rattle.czi_image.specs.Applied.{place_after, walks_on, layout_after}
 use Rattle.czi_image.specs.Holds.{directory_place, tile_place, LiesAs, att_item_place, meta_item_place}
-use Rattle.czi_image.specs.Spans.{directory_span, tile_span, header_span}
+use Rattle.czi_image.specs.Spans.{directory_span, header_span}
 use Rattle.czi_image.specs.declared.change.DirectoryChange.{DirectoryChange}
 use Rattle.czi_image.specs.declared.change.DirectoryChange.TheVariants.{Kept, Patched, New}
 use Rattle.czi_image.specs.declared.index.Index.{Index}
 use Rattle.czi_image.specs.declared.types.DirItem.{DirItem}
 use Rattle.czi_machine.specs.Edit.{DocumentEffect}
 use Rattle.czi_machine.specs.Grouped.{fit_all}
-use Rattle.czi_format.specs.Entry.{Entry}
 use Rattle.czi_image.specs.declared.types.Tile.{Tile}
 use Rattle.czi_machine.specs.Cover.{cover, between}
 use Rattle.czi_machine.specs.State.{State, spans_of, items_of, not_among, item_places, item_spans}
@@ -39,7 +38,7 @@ use Rattle.czi_machine.proofs.Clear.{map-map}
 use Rattle.czi_region.specs.declared.block.Region.{Region}
 use Rattle.czi_plan.specs.Directory.{need_of}
 use Rattle.czi_plan.specs.Listing.{IsPlace, fits_in_place}
-use Rattle.czi_plan.specs.Plan.{left_directory, freed_of, usable_of, used_of, dead_of, left_places, IsPlan, extents_after, left_items}
+use Rattle.czi_plan.specs.Plan.{left_directory, usable_of, used_of, dead_of, left_places, IsPlan, extents_after, left_items}
 use Rattle.czi_plan.specs.Conditions.{IsMapOf, LiesIn}
 use Rattle.czi_plan.specs.Does.{layout_by, Does}
 use Rattle.czi_plan.specs.declared.plan.EditPlan.{EditPlan}

@@ -1,7 +1,7 @@
 -- Steps of loops over lists, and entries that are written one behind another.
 use Rattle.std.proofs.Common.{◌≡◌, ℕ, ◌+◌, List, [], ◌∷◌, ◌++◌, map, take, drop, length, sum, refl, ap, ◌∙◌, arith, length-append, append_assoc, suc, ◌<◌, get_or, sym, subst, ◌-◌, ◌≤◌, pos, replicate, append-nil}
 use Rattle.std.proofs.Math.Seq.{drop-append_seam, drop-cons, take-suc, take-append_seam}
-use Rattle.std.proofs.lemmas.List.{length-map, take_all, drop-drop, drop-replicate, length-replicate, length-take-le, map-append, drop_all, take-append-drop}
+use Rattle.std.proofs.lemmas.List.{length-map, drop-drop, drop-replicate, length-replicate, length-take-le, map-append, drop_all, take-append-drop}
 use Rattle.std.specs.List.{AllByRecursion, flat_map}
 use Rattle.std.proofs.Math.Numerals.{add-one}
 use Rattle.std.proofs.lemmas.List.Sums.{sum_by-append, sum_by-cons}
@@ -11,9 +11,6 @@ use Rattle.czi_format.specs.Segment.{directory_id}
 use Rattle.czi_image.specs.View.{tile_of}
 use Rattle.czi_image.specs.declared.types.Tile.{Tile}
 use Rattle.czi_links.specs.Record.{Bytes}
-use Rattle.czi_region.specs.Pieces.{bytes_of, bytes_put, IsPiece}
-use Rattle.czi_region.specs.declared.block.Piece.{Piece as Range}
-use Rattle.czi_region.specs.declared.block.Region.{Region}
 use Rattle.czi_machine.proofs.Tiled.{All-both}
 use Rattle.czi_format.specs.Bytes.{i32_bytes, put_at}
 use Rattle.czi_format.specs.Contents.{directory_head}

@@ -1,24 +1,17 @@
 -- What the proofs of a plan use of a kind of list; and that it holds of both.
-use Rattle.std.proofs.Common.{◌≡◌, ℕ, ◌+◌, ◌-◌, ◌*◌, ◌<◌, ◌≤◌, ◌^◌, ◌%◌, List, [], ◌∷◌, ◌++◌, map, length, Option, option_map, option_to_list, refl, ap, sym, ◌∙◌, arith, append_assoc, append-nil, length-append, max, pos}
+use Rattle.std.proofs.Common.{◌≡◌, ℕ, ◌+◌, ◌<◌, ◌≤◌, ◌^◌, ◌%◌, List, [], ◌∷◌, ◌++◌, map, length, option_map, option_to_list, refl, ap, sym, ◌∙◌, arith, append_assoc, append-nil, length-append}
 use Rattle.std.specs.List.{AllByRecursion, flat_map}
-use Rattle.czi_format.specs.Document.{Attachment, Subblock}
-use Rattle.czi_format.specs.Entry.{A1, Entry, EntryInfo, a1_bytes, a1_len, entry, entry_bytes, entry_len, info_len, IsA1, IsEntry, a1}
-use Rattle.czi_format.specs.Layout.{Place}
-use Rattle.czi_format.specs.Segment.{Segment, attachment_id, attdir_id, subblock_id}
+use Rattle.czi_format.specs.Entry.{EntryInfo, a1_bytes, a1_len, entry, entry_bytes, entry_len, info_len, IsA1, IsEntry, a1}
+use Rattle.czi_format.specs.Segment.{attachment_id, attdir_id, subblock_id}
 use Rattle.czi_format.specs.Span.{Span, end_of}
 use Rattle.czi_image.specs.Applied.{directory_after, live_after}
 use Rattle.czi_image.specs.Change.{AreWithin, act_of, acts_of, setting_of}
 use Rattle.czi_image.specs.Holds.{att_item_place, meta_item_place, tile_place}
 use Rattle.czi_image.specs.Spans.{att_item_span, directory_span, header_span, live_spans, meta_item_span, tile_span}
-use Rattle.czi_image.specs.View.{att_item_of, tile_of}
 use Rattle.czi_image.specs.declared.change.Act.{Act as CodeAct}
-use Rattle.czi_image.specs.declared.change.Act.TheVariants.{Out, Put, Into}
 use Rattle.czi_image.specs.declared.change.Change.{Change as CodeChange}
 use Rattle.czi_image.specs.declared.change.DirectoryChange.{DirectoryChange}
-use Rattle.czi_image.specs.declared.change.DirectoryChange.TheVariants.{Kept}
 use Rattle.czi_image.specs.declared.index.Index.{Index}
-use Rattle.czi_image.specs.declared.types.AttItem.{AttItem}
-use Rattle.czi_image.specs.declared.types.Tile.{Tile}
 use Rattle.czi_format.specs.Live.{Directory}
 use Rattle.czi_machine.specs.Cover.{between}
 use Rattle.czi_machine.specs.Patch.{HasPatch, PatchPuts, total}
@@ -27,7 +20,7 @@ use Rattle.czi_machine.proofs.PatchPieces.{a1s_patch, entries_patch}
 use Rattle.czi_machine.proofs.Patched.{a1_codec, entry_codec, length-written}
 use Rattle.czi_plan.proofs.Order.{at_place}
 use Rattle.czi_machine.specs.Change.{changed, omitted, set, set_omitted}
-use Rattle.czi_plan.specs.Kind.{ActsOnAttachments, ActsOnTiles, Kind, of_attachments, of_subblocks, span_in}
+use Rattle.czi_plan.specs.Kind.{Kind, of_attachments, of_subblocks, span_in}
 use Rattle.czi_plan.specs.Plan.{left_directory, left_items, left_places}
 use Rattle.czi_plan.proofs.Entries.{length-directory}
 

@@ -1,6 +1,6 @@
 -- The marks of a directory that lists other entries, and the links of a plan: they have no place in common, end within the length,
 -- and their record fits a slot of the journal.
-use Rattle.std.proofs.Common.{◌≡◌, ℕ, ◌+◌, ◌<◌, ◌≤◌, ◌^◌, List, [], ◌∷◌, ◌++◌, map, drop, get_or, length, refl, ap, sym, ◌∙◌, subst, arith, ◌-◌, ◌*◌, pos, filter, sum, true, false, Bool, Option, Some, None, inl, inr, length-append, append-nil, nat_le}
+use Rattle.std.proofs.Common.{◌≡◌, ℕ, ◌+◌, ◌<◌, ◌≤◌, ◌^◌, List, [], ◌∷◌, ◌++◌, map, drop, get_or, length, refl, ap, sym, ◌∙◌, subst, arith, ◌-◌, ◌*◌, pos, filter, true, false, Bool, Option, Some, None, inl, inr, length-append, append-nil, nat_le}
 use Rattle.std.specs.Prelude.{sum_by}
 use Rattle.std.specs.List.{AllByRecursion, flat_map}
 use Rattle.std.specs.List.Sorted.{IsPermutation}

@@ -1,17 +1,17 @@
 -- What an act on a list is to the machine; and that it is so of the subblocks, and of the attachments.
-use Rattle.std.proofs.Common.{◌≡◌, ℕ, ◌+◌, ◌-◌, ◌*◌, ◌<◌, ◌≤◌, ◌^◌, ℤ, pos, List, [], ◌∷◌, ◌++◌, map, filter, length, sum, true, false, Bool, Option, Some, None, option_map, option_to_list, Ok, refl, ap, sym, ◌∙◌, subst, arith, append-nil, inl, inr, ◌||◌, ◌&&◌, nat_lt, if◌then◌else◌, ◌⊎◌}
+use Rattle.std.proofs.Common.{◌≡◌, ℕ, ◌+◌, ◌*◌, ◌<◌, ◌≤◌, ◌^◌, ℤ, List, [], ◌∷◌, ◌++◌, map, filter, length, sum, true, Bool, Option, Some, None, option_map, option_to_list, Ok, refl, ap, sym, ◌∙◌, subst, arith, append-nil, inl, inr, ◌||◌, ◌&&◌, nat_lt, if◌then◌else◌, ◌⊎◌}
 use Rattle.std.specs.Bool.{⊤}
 use Rattle.std.specs.List.{AllByRecursion}
-use Rattle.czi_format.specs.Document.{Attachment, Document, Metadata, Subblock}
-use Rattle.czi_format.specs.Entry.{A1, Entry, a1_len, entry_len}
+use Rattle.czi_format.specs.Document.{Attachment, Document, Subblock}
+use Rattle.czi_format.specs.Entry.{A1, a1_len, entry_len}
 use Rattle.czi_format.specs.FirstFault.{◌>>=◌}
 use Rattle.czi_format.specs.Layout.{Layout, Place}
-use Rattle.czi_format.specs.Live.{AttItem as FormatAttItem, Directory, FileHeader, Live, MetaItem as FormatMetaItem, Tile as FormatTile, attachment_directory, attachment_of, directory, subblock_of}
+use Rattle.czi_format.specs.Live.{AttItem as FormatAttItem, Directory, Live, Tile as FormatTile, attachment_directory, attachment_of, directory, subblock_of}
 use Rattle.czi_format.specs.Segment.{Segment, attdir_id, directory_id, extent}
-use Rattle.czi_format.specs.Space.{Space, deleted_after}
+use Rattle.czi_format.specs.Space.{deleted_after}
 use Rattle.czi_format.specs.Span.{Span}
 use Rattle.czi_format.proofs.Local.{attdir_own, directory_own}
-use Rattle.czi_image.specs.Applied.{layout_after, place_after}
+use Rattle.czi_image.specs.Applied.{place_after}
 use Rattle.czi_image.specs.Change.{act_of, acts_of, a1s_after, attdir_in, directory_in, directory_set, entries_after, live_change_of, setting_of}
 use Rattle.czi_image.specs.Holds.{LiesAs, att_item_place, directory_place, extent_of, lies_at, meta_item_place, tile_place}
 use Rattle.czi_image.specs.View.{att_item_of, meta_item_of, tile_of}
@@ -25,9 +25,9 @@ use Rattle.czi_machine.specs.Change.{Act, Change, Setting, brought, changed, map
 use Rattle.czi_machine.specs.Cover.{cover}
 use Rattle.czi_machine.specs.Edit.{DocumentEffect, in_attachments, in_subblocks}
 use Rattle.czi_machine.specs.InOrder.{LiesInOrder, StaysOrNew, attachments_stay, directory_needs, directory_spans, needs_of, tiles_stay}
-use Rattle.czi_machine.specs.LiveChange.{LiveChange, changed_live, new_segments}
-use Rattle.czi_machine.specs.Places.{Asked, Fitted, attdir_need, can_be_used, directory_need, edit_asks, freeing, fresh, in_place, laid, space_of, walk_goes_on}
-use Rattle.czi_machine.specs.Planned.{Brings as Both, BringsAttachment, BringsTile, ListsAttachments, ListsTiles, Plans, Sets}
+use Rattle.czi_machine.specs.LiveChange.{LiveChange, new_segments}
+use Rattle.czi_machine.specs.Places.{Fitted, attdir_need, can_be_used, directory_need, edit_asks, freeing, fresh, in_place, laid, space_of, walk_goes_on}
+use Rattle.czi_machine.specs.Planned.{Brings as Both, BringsAttachment, BringsTile, ListsAttachments, ListsTiles, Plans}
 use Rattle.czi_machine.specs.Patch.{total}
 use Rattle.czi_machine.specs.Puts.{PutsSegment}
 use Rattle.czi_machine.specs.Ranges.{asked_for}
@@ -43,14 +43,14 @@ use Rattle.std.proofs.lemmas.List.{map-append}
 use Rattle.czi_plan.specs.Conditions.{LiesIn}
 use Rattle.czi_plan.specs.Directory.{need_of}
 use Rattle.czi_plan.specs.Does.{layout_by}
-use Rattle.czi_plan.specs.Kind.{ActsOnAttachments, ActsOnTiles, Kind, of_attachments, of_subblocks}
+use Rattle.czi_plan.specs.Kind.{Kind, of_attachments, of_subblocks}
 use Rattle.czi_plan.specs.Changing.{entries_in, tiles_brought}
 use Rattle.czi_image.specs.declared.change.DirectoryChange.TheVariants.{Kept, New, Patched}
 use Rattle.czi_plan.proofs.Acts.{act_as, brought_act, brought_as, mapped_act}
 use Rattle.czi_space.specs.State.{MapState}
-use Rattle.czi_plan.specs.Plan.{extents_after, freed_of, used_of}
+use Rattle.czi_plan.specs.Plan.{extents_after}
 use Rattle.czi_plan.specs.declared.plan.EditPlan.{EditPlan}
-use Rattle.czi_plan.proofs.Directing.{IsPatchedDir, ListsItems, PointsTo, PutsHead, dir_in, points_to}
+use Rattle.czi_plan.proofs.Directing.{ListsItems, PointsTo, PutsHead, dir_in, points_to}
 
 -- a directory that is new
 abbrev pub new_dir : DirectoryChange → List Place

@@ -1,7 +1,7 @@
 -- What an act on the subblocks needs, that it is what the machine asks for, and why it has no plan.
-use Rattle.std.proofs.Common.{◌≡◌, ℕ, [], ◌∷◌, true, false, Option, Some, None, option_map, Ok, refl, ap, sym, ◌∙◌, subst, ◌+◌, ◌<◌, ◌≤◌, List, ◌++◌, map, take, drop, length, sum, ◌&&◌, ◌||◌, nat_le, option_to_list, Err, append-nil, arith, ◌==◌, if◌then◌else◌, ◌*◌, Result, pos}
+use Rattle.std.proofs.Common.{◌≡◌, ℕ, [], ◌∷◌, true, false, Option, Some, None, option_map, Ok, refl, ap, sym, ◌∙◌, subst, ◌+◌, ◌<◌, ◌≤◌, List, ◌++◌, map, take, drop, length, sum, ◌&&◌, nat_le, option_to_list, Err, arith, ◌==◌, if◌then◌else◌, Result}
 use Rattle.std.specs.List.{AllByRecursion}
-use Rattle.std.proofs.lemmas.List.{length-map, map-append}
+use Rattle.std.proofs.lemmas.List.{length-map}
 use Rattle.std.specs.Bool.{⊤}
 use Rattle.czi_format.specs.Layout.{Layout, Place}
 use Rattle.czi_format.specs.Live.{Directory, Live}
@@ -33,7 +33,7 @@ use Rattle.czi_region.specs.declared.block.Region.{Region}
 use Rattle.czi_plan.specs.Directory.{need_of}
 use Rattle.czi_plan.specs.Kind.{Kind, span_in}
 use Rattle.czi_plan.specs.Listing.{IsPlace, entries_len, fits_in_place}
-use Rattle.czi_plan.proofs.KindLaws.{Laws, live_of}
+use Rattle.czi_plan.proofs.KindLaws.{Laws}
 use Rattle.czi_plan.proofs.Machines.{Machine}
 use Rattle.czi_plan.specs.Plan.{left_directory}
 use Rattle.czi_plan.specs.Conditions.{IsMapOf, LiesIn}
@@ -45,8 +45,8 @@ use Rattle.czi_format.specs.FirstFault.{◌>>=◌}
 use Rattle.czi_image.specs.declared.change.Act.TheVariants.{Out, Put, Into}
 use Rattle.czi_machine.specs.Ranges.{asked_for}
 use Rattle.czi_region.specs.declared.block.Piece.{Piece as Range}
-use Rattle.czi_plan.specs.Changing.{Brings, IsNew, entries_in, new_spans, range_after, range_with, size_after, size_of, size_with, tiles_before, tiles_behind, tiles_brought, tiles_leaving, items_left, back_entries, front_entries, middle_entries}
-use Rattle.czi_plan.proofs.Acts.{brought_act, changed_images, changes_act, lens_before, lens_behind, lens_leaving, range_act, range_as, size_as, sum-three, map_leaving, sum-both}
+use Rattle.czi_plan.specs.Changing.{Brings, IsNew, entries_in, new_spans, range_after, range_with, size_after, size_of, size_with, tiles_before, tiles_behind, tiles_brought, tiles_leaving, items_left}
+use Rattle.czi_plan.proofs.Acts.{brought_act, changed_images, changes_act, lens_before, lens_behind, lens_leaving, range_act, range_as, size_as, sum-three, map_leaving}
 use Rattle.czi_plan.proofs.Parts.{each_of, length_by, live_once, place_spans, used_by}
 
 -- what is left of the space

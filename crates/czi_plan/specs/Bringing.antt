@@ -1,5 +1,5 @@
 -- A subblock that an edit brings, and where it comes in the order of the directory.
-use Rattle.std.specs.Prelude.{◌≡◌, ℕ, ◌+◌, ◌<◌, ◌≤◌, ◌^◌, List, length, max, sum, map}
+use Rattle.std.specs.Prelude.{◌≡◌, ℕ, ◌+◌, ◌<◌, ◌≤◌, List, length, max}
 use Rattle.czi_doc.specs.View.{info_of}
 use Rattle.czi_doc.specs.declared.items.EntryInfo.{EntryInfo as CodeEntryInfo}
 use Rattle.czi_format.specs.Document.{Subblock}

@@ -1,5 +1,5 @@
 -- The two lists of which an image has a directory: the subblocks, and the attachments.
-use Rattle.std.specs.Prelude.{◌≡◌, ℕ, ◌+◌, ◌*◌, ◌^◌, List, [], ◌∷◌, map, length, Option}
+use Rattle.std.specs.Prelude.{◌≡◌, ℕ, ◌+◌, ◌*◌, List, [], ◌∷◌, length, Option}
 use Rattle.czi_format.specs.Data.{attachment_data, attdir_data, directory_data, subblock_data}
 use Rattle.czi_format.specs.Document.{Attachment, Subblock}
 use Rattle.czi_format.specs.Entry.{A1, Entry, IsA1, IsEntry, a1_bytes, a1_len, entry_bytes, entry_len}

@@ -15,6 +15,7 @@ use crate::bringing::{Seat, plan_brought};
 use crate::plan::{EditPlan, PlanFault};
 use crate::subblock::NewSubblock;
 use czi_doc::{DATA_LIMIT, EntryInfo, TEXT_LIMIT};
+use czi_format::MOST_SUBBLOCKS;
 use czi_image::Index;
 use czi_region::Region;
 use czi_space::Map;
@@ -45,7 +46,7 @@ pub fn plan_add(
     requires empty { IsEmpty out.old }
     requires reset { bytes_put region.old ≡ [] }
     requires of_index { IsMapOf index.now space.now }
-    requires few { length index.now.tiles.items < 2 ^ 20 }
+    requires few { length index.now.tiles.items < MOST_SUBBLOCKS }
     requires meta { length meta.now ≤ TEXT_LIMIT }
     requires pixels { length pixels.now ≤ DATA_LIMIT }
     requires tail { length tail.now ≤ DATA_LIMIT }

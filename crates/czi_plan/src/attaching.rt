@@ -29,6 +29,7 @@ use crate::placing::place;
 use crate::plan::{EditPlan, PlanFault};
 use czi_att::att_size;
 use czi_doc::{AttInfo, DATA_LIMIT};
+use czi_format::MOST_ATTACHMENTS;
 use czi_image::{Act, Index};
 use czi_region::Region;
 use czi_space::Map;
@@ -104,7 +105,7 @@ fn plan_attached(
     requires empty { IsEmpty out.old }
     requires reset { bytes_put region.old ≡ [] }
     requires of_index { IsMapOf index.now space.now }
-    requires seat { IsSeat seat (length index.now.attachments.items) (2 ^ 12) }
+    requires seat { IsSeat seat (length index.now.attachments.items) (MOST_ATTACHMENTS) }
     requires bytes { length bytes.now ≤ DATA_LIMIT }
     ensures plan { OnOk result (IsPlan index.now space.now region.new out.new) }
     ensures does { OnOk result (Does index.now space.now region.new out.new (in_attachments (act_of (act_at seat (attachment_in info.now bytes.now))))) }
@@ -146,7 +147,7 @@ pub fn plan_attach(
     requires empty { IsEmpty out.old }
     requires reset { bytes_put region.old ≡ [] }
     requires of_index { IsMapOf index.now space.now }
-    requires few { length index.now.attachments.items < 2 ^ 12 }
+    requires few { length index.now.attachments.items < MOST_ATTACHMENTS }
     requires bytes { length bytes.now ≤ DATA_LIMIT }
     ensures plan { OnOk result (IsPlan index.now space.now region.new out.new) }
     ensures does { OnOk result (Does index.now space.now region.new out.new (in_attachments (into (length index.now.attachments.items) (attachment_in info.now bytes.now)))) }

@@ -4,10 +4,8 @@ ghost use Rattle.std.specs.Prelude.{◌≡◌, ℕ, ◌+◌, ◌-◌, ◌^◌, �
 ghost use Rattle.std.specs.List.{AllByRecursion};
 ghost use Rattle.czi_format.specs.Document.{Attachment};
 ghost use Rattle.czi_format.specs.Space.{fit, use_span};
-ghost use Rattle.czi_format.specs.Span.{span_le, sorted};
 ghost use Rattle.czi_image.specs.Applied.{walks_on};
 ghost use Rattle.czi_image.specs.Change.{AreWithin, act_of};
-ghost use Rattle.czi_image.specs.Holds.{att_item_place};
 ghost use Rattle.czi_image.specs.View.{att_item_of};
 ghost use Rattle.czi_machine.specs.Change.{Change};
 ghost use Rattle.czi_machine.specs.Places.{attachment_need};
@@ -22,63 +20,24 @@ ghost use Rattle.czi_plan.specs.Conditions.{IsMapOf};
 ghost use Rattle.czi_plan.specs.Kind.{of_attachments};
 ghost use Rattle.czi_plan.specs.Listing.{HasRoomFor, IsPlace};
 ghost use Rattle.czi_plan.specs.Marks.{IsSized, head_mark, mark_of};
-ghost use Rattle.czi_plan.specs.Plan.{dead_of, left_directory, usable_of};
 
 use crate::attachments::{att_parts, list_attachments};
 use crate::bringing::Seat;
-use crate::changing::{make_room, release_held};
+use crate::changing::make_room;
 use crate::directory::position_of;
-use crate::freeing::release;
+use crate::freeing::release_left;
 use crate::marks::{Mark, link, mark_header};
 use crate::placing::walks_at;
 use crate::plan::EditPlan;
 use czi_att::{att_size, stage_att};
 use czi_doc::{AttInfo, DATA_LIMIT};
-use czi_image::{Act, AttItem, DirItem, DirectoryChange, Index};
+use czi_format::{CONTENTS, MOST_ATTACHMENTS};
+use czi_image::{Act, AttItem, Index};
 use czi_num::Span;
 use czi_region::Region;
 use czi_seg::{SegHeader, SegId};
 use czi_space::Map;
 use std::alloc::{AllocError, Global};
-
-/// How many bytes of an attachment's data stand before its bytes.
-const CONTENTS: usize = 256;
-
-/// Frees attachments.
-fn release_items(
-    items: &[AttItem],
-    freed: &mut Vec<Span>,
-    dead: &mut Vec<Span>,
-) -> Result<(), AllocError>
-    ensures freed { OnOk result (map span_of freed.new.items ≡ map span_of freed.old.items ++ usable_of (map att_item_place items.now)) }
-    ensures dead { OnOk result (map span_of dead.new.items ≡ map span_of dead.old.items ++ dead_of (map att_item_place items.now)) }
-{
-    for item in items {
-        release(&item.span, item.walked, freed, dead)?;
-    }
-    Ok(())
-}
-
-/// Frees attachments that leave, and a directory for which there is a new one. The attachments are held.
-fn release_gone(
-    leaving: &[AttItem],
-    change: &DirectoryChange,
-    directory: &Option<DirItem>,
-    held: &mut Vec<Span>,
-    freed: &mut Vec<Span>,
-    dead: &mut Vec<Span>,
-) -> Result<(), AllocError>
-    requires no_held { held.old.items ≡ [] }
-    requires no_freed { freed.old.items ≡ [] }
-    requires no_dead { dead.old.items ≡ [] }
-    ensures held { OnOk result (map span_of held.new.items ≡ usable_of (map att_item_place leaving.now)) }
-    ensures freed { OnOk result (map span_of freed.new.items ≡ sorted span_le (usable_of (map att_item_place leaving.now ++ left_directory change.now directory.now))) }
-    ensures dead { OnOk result (map span_of dead.new.items ≡ dead_of (map att_item_place leaving.now ++ left_directory change.now directory.now)) }
-{
-    release_items(leaving, held, dead)?;
-    release_held(change, directory, held, freed, dead)?;
-    Ok(())
-}
 
 /// Plans an act on the attachments once what it brings is staged, and it is known what becomes of their directory.
 pub fn stage_attachment_act(
@@ -92,7 +51,7 @@ pub fn stage_attachment_act(
 ) -> Result<(), AllocError>
     requires of_index { IsMapOf index.now space.now }
     requires within { AreWithin (act ∷ []) (length index.now.attachments.items) }
-    requires few { length (tiles_before act index.now.attachments.items ++ (tiles_brought act ++ tiles_behind act index.now.attachments.items)) ≤ 2 ^ 12 }
+    requires few { length (tiles_before act index.now.attachments.items ++ (tiles_brought act ++ tiles_behind act index.now.attachments.items)) ≤ MOST_ATTACHMENTS }
     requires starts { Starts of_attachments space.now (new_spans of_attachments act) out.old }
     requires brings { (c : Change Attachment) × Brings of_attachments index.now space.now region.old act c out.old.writes.items }
     requires marks { map mark_of marks.items ≡ new_marks of_attachments act }
@@ -105,7 +64,7 @@ pub fn stage_attachment_act(
     let parts = att_parts(&act, &index.attachments);
     list_attachments(alloc, index, &parts, region, out, &mut marks)?;
     let mut dead = Vec::new(alloc);
-    release_gone(
+    release_left(
         parts.leaving,
         &out.change.attdir,
         &index.attdir,
@@ -189,7 +148,7 @@ pub fn stage_attached(
     requires no_writes { out.old.writes.items ≡ [] }
     requires reset { bytes_put region.old ≡ [] }
     requires of_index { IsMapOf index.now space.now }
-    requires seat { IsSeat seat (length index.now.attachments.items) (2 ^ 12) }
+    requires seat { IsSeat seat (length index.now.attachments.items) (MOST_ATTACHMENTS) }
     requires item { IsItemOf item.now.info (length bytes.now) item.now.span item.now }
     requires walked { item.now.walked ≡ (nat_lt item.now.span.at index.now.length || walks_on index.now) }
     requires fits { fit (space_of space.now) (attachment_need (attachment_in item.now.info bytes.now)) ≡ Ok (record { span = span_of item.now.span; space = use_span (space_of space.now) (span_of item.now.span) }) }

@@ -19,21 +19,13 @@ use crate::marks::{Mark, mark_patch};
 use crate::plan::EditPlan;
 use crate::tiles::{Parts, Sizes, parts_of};
 use czi_att::write_a1;
+use czi_format::{A1_LEN, ATTDIR_FRONT, ATTDIR_POSITION, MOST_ATTACHMENTS};
 use czi_image::{Act, AttItem, DirItem, DirectoryChange, Index};
 use czi_num::write_u32;
 use czi_region::{Piece, Region, whole_piece};
 use czi_seg::SegId;
 use std::alloc::{AllocError, Global};
 use std::slice;
-
-/// The place of AttachmentDirectoryPosition in the image.
-const ATTDIR_POSITION: u64 = 104;
-
-/// How many bytes of an attachment directory's data stand before its entries.
-const FRONT: usize = 256;
-
-/// How many bytes an entry has.
-const ENTRY: usize = 128;
 
 /// What an act brings to a list of attachments.
 fn brought_items<'a>(act: &'a Act<AttItem>, items: &'a [AttItem]) -> &'a [AttItem]
@@ -55,14 +47,14 @@ pub fn att_parts<'a>(act: &'a Act<AttItem>, items: &'a [AttItem]) -> Parts<'a, A
 
 /// How long the parts of an attachment directory's data are after an act with these parts.
 pub fn att_sizes(parts: &Parts<AttItem>) -> Sizes
-    requires few { att_count parts.now ≤ 2 ^ 20 }
+    requires few { att_count parts.now ≤ MOST_ATTACHMENTS }
     requires brought { length parts.now.brought.now ≤ 1 }
     ensures sizes { AreSizes of_attachments result (att_front parts.now) (att_middle parts.now) (att_back parts.now) }
     ensures bound { result.front + result.middle + result.back ≤ 2 ^ 40 }
 {
-    let front = FRONT + ENTRY * parts.before.len();
-    let brought = ENTRY * parts.brought.len();
-    let behind = ENTRY * parts.behind.len();
+    let front = ATTDIR_FRONT + A1_LEN * parts.before.len();
+    let brought = A1_LEN * parts.brought.len();
+    let behind = A1_LEN * parts.behind.len();
     if parts.brought.len() == parts.leaving.len() {
         Sizes {
             front,
@@ -80,14 +72,14 @@ pub fn att_sizes(parts: &Parts<AttItem>) -> Sizes
 
 /// How many attachments are there after an act with these parts.
 fn count_after(parts: &Parts<AttItem>) -> usize
-    requires { att_count parts.now ≤ 2 ^ 20 }
+    requires { att_count parts.now ≤ MOST_ATTACHMENTS }
     ensures { result ≡ att_count parts.now }
 {
     parts.before.len() + parts.brought.len() + parts.behind.len()
 }
 
 /// The entry of an attachment.
-fn a1_of(item: &AttItem) -> [u8; ENTRY]
+fn a1_of(item: &AttItem) -> [u8; A1_LEN]
     ensures written { result ≡ a1_bytes (att_item_of item.now).entry }
     ensures entry { IsA1 (att_item_of item.now).entry }
 {
@@ -107,8 +99,8 @@ fn push_a1s(items: &[AttItem], out: &mut Vec<u8>) -> Result<(), AllocError>
 
 /// The entries that come, and those behind them where they move.
 fn middle_a1s(alloc: Global, parts: &Parts<AttItem>) -> Result<Vec<u8>, AllocError>
-    requires small { length parts.now.brought.now ≤ 2 ^ 20 }
-    requires few { length parts.now.leaving.now ≤ 2 ^ 20 }
+    requires small { length parts.now.brought.now ≤ MOST_ATTACHMENTS }
+    requires few { length parts.now.leaving.now ≤ MOST_ATTACHMENTS }
     ensures bytes { IfOk result (λ v. v.items ≡ flat_map a1_bytes (att_middle parts.now)) }
     ensures entries { OnOk result (AllByRecursion IsA1 (att_middle parts.now)) }
 {
@@ -139,7 +131,7 @@ fn stage_attdir(
     len: usize,
     region: &mut Region,
 ) -> Result<Piece, AllocError>
-    requires few { att_count parts.now ≤ 2 ^ 20 }
+    requires few { att_count parts.now ≤ MOST_ATTACHMENTS }
     requires long { size_in of_attachments (att_front parts.now ++ (att_middle parts.now ++ att_back parts.now)) ≤ len }
     requires room { len ≤ room region.old }
     ensures staged { IfOk result (λ p. PutsPiece region.old region.new p (attdir_data (att_front parts.now ++ (att_middle parts.now ++ att_back parts.now)) (len - size_in of_attachments (att_front parts.now ++ (att_middle parts.now ++ att_back parts.now))))) }
@@ -147,11 +139,11 @@ fn stage_attdir(
     ensures whole { IfOk result (λ p. p.len ≡ len) }
 {
     let entries = all_a1s(alloc, parts)?;
-    let mut head = [0u8; FRONT];
+    let mut head = [0u8; ATTDIR_FRONT];
     write_u32(&mut head, 0, count_after(parts) as u32);
     let front = region.put(&head);
     region.put(&entries);
-    region.zeros(len - FRONT - entries.len());
+    region.zeros(len - ATTDIR_FRONT - entries.len());
     whole_piece();
     Ok(Piece { at: front.at, len })
 }
@@ -163,7 +155,7 @@ fn patch_attdir(
     parts: &Parts<AttItem>,
     marks: &mut Vec<Mark>,
 ) -> Result<(), AllocError>
-    requires few { att_count parts.now ≤ 2 ^ 20 }
+    requires few { att_count parts.now ≤ MOST_ATTACHMENTS }
     requires brought { length parts.now.brought.now ≤ 1 }
     requires leaving { length parts.now.leaving.now ≤ 1 }
     requires room { has_room directory.now (size_in of_attachments (att_front parts.now ++ (att_middle parts.now ++ att_back parts.now))) }
@@ -196,7 +188,7 @@ fn write_attdir(
     out: &mut EditPlan,
     marks: &mut Vec<Mark>,
 ) -> Result<(), AllocError>
-    requires few { att_count parts.now ≤ 2 ^ 20 }
+    requires few { att_count parts.now ≤ MOST_ATTACHMENTS }
     requires brought { length parts.now.brought.now ≤ 1 }
     requires long { has_room directory.now (size_in of_attachments (att_front parts.now ++ (att_middle parts.now ++ att_back parts.now))) }
     requires room { directory.now.span.len - 32 ≤ room region.old }
@@ -211,7 +203,7 @@ fn write_attdir(
     put_directory(
         alloc,
         directory,
-        ATTDIR_POSITION,
+        ATTDIR_POSITION as u64,
         SegId::AttDir,
         used,
         piece,
@@ -230,7 +222,7 @@ pub fn list_attachments(
     out: &mut EditPlan,
     marks: &mut Vec<Mark>,
 ) -> Result<(), AllocError>
-    requires few { att_count parts.now ≤ 2 ^ 20 }
+    requires few { att_count parts.now ≤ MOST_ATTACHMENTS }
     requires brought { length parts.now.brought.now ≤ 1 }
     requires leaving { length parts.now.leaving.now ≤ 1 }
     requires ready { IsReady index.now.attdir (size_in of_attachments (att_front parts.now ++ (att_middle parts.now ++ att_back parts.now))) (room region.old) out.old.change.attdir }

@@ -28,7 +28,7 @@ use crate::staging::{new_tile, stage_subblock};
 use crate::subblock::NewSubblock;
 use crate::tiles::{Sizes, sizes_after};
 use czi_dv::entry_len;
-use czi_format::LONGEST_ENTRY;
+use czi_format::{LONGEST_ENTRY, MOST_SUBBLOCKS};
 use czi_image::{Act, Index, Tile};
 use czi_num::Span;
 use czi_region::Region;
@@ -68,8 +68,8 @@ impl Seat {
     fn sizes(self, tiles: &[Tile], total: usize, entry: usize) -> Sizes
         requires total { total ≡ sum (map entry_len (entries_of tiles.now)) }
         requires most { total ≤ LONGEST_ENTRY * length tiles.now }
-        requires few { length tiles.now ≤ 2 ^ 20 }
-        requires seat { IsSeat self (length tiles.now) (2 ^ 20) }
+        requires few { length tiles.now ≤ MOST_SUBBLOCKS }
+        requires seat { IsSeat self (length tiles.now) (MOST_SUBBLOCKS) }
         requires small { entry ≤ LONGEST_ENTRY }
         ensures sizes { (s : Subblock) → info_len s.info ≡ entry → AreSizesOf of_subblocks result (act_at self s) tiles.now }
         ensures bound { result.front + result.middle + result.back ≤ 2 ^ 40 }
@@ -94,7 +94,7 @@ fn stage_brought(
     requires no_writes { out.old.writes.items ≡ [] }
     requires reset { bytes_put region.old ≡ [] }
     requires of_index { IsMapOf index.now space.now }
-    requires seat { IsSeat incoming.now.seat (length index.now.tiles.items) (2 ^ 20) }
+    requires seat { IsSeat incoming.now.seat (length index.now.tiles.items) (MOST_SUBBLOCKS) }
     requires fits { fit (space_of space.now) (subblock_need (subblock_of incoming.now.new.now)) ≡ Ok (record { span = span_of incoming.now.span; space = use_span (space_of space.now) (span_of incoming.now.span) }) }
     requires ends { incoming.now.span.at + incoming.now.span.len ≤ 2 ^ 62 }
     requires sizes { AreSizesOf of_subblocks incoming.now.sizes (act_at incoming.now.seat (subblock_of incoming.now.new.now)) index.now.tiles.items }
@@ -133,7 +133,7 @@ pub fn plan_brought(
     requires empty { IsEmpty out.old }
     requires reset { bytes_put region.old ≡ [] }
     requires of_index { IsMapOf index.now space.now }
-    requires seat { IsSeat seat (length index.now.tiles.items) (2 ^ 20) }
+    requires seat { IsSeat seat (length index.now.tiles.items) (MOST_SUBBLOCKS) }
     ensures plan { OnOk result (IsPlan index.now space.now region.new out.new) }
     ensures does { OnOk result (Does index.now space.now region.new out.new (in_subblocks (act_of (act_at seat (subblock_of new.now))))) }
     ensures held { OnOk result (length out.new.held.items ≤ 1) }

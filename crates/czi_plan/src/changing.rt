@@ -3,30 +3,24 @@
 ghost use Rattle.std.specs.Prelude.{◌≡◌, ℕ, List, ◌+◌, ◌^◌, ◌≤◌, ◌++◌, ◌∷◌, [], length, map, OnOk};
 ghost use Rattle.std.specs.List.{AllByRecursion};
 ghost use Rattle.czi_format.specs.Document.{Subblock};
-ghost use Rattle.czi_format.specs.Layout.{Place};
-ghost use Rattle.czi_format.specs.Span.{span_le, sorted};
 ghost use Rattle.czi_image.specs.Change.{AreWithin};
-ghost use Rattle.czi_image.specs.Holds.{tile_place};
 ghost use Rattle.czi_machine.specs.Change.{Change};
-ghost use Rattle.czi_num.specs.Span.{span_of};
 ghost use Rattle.czi_region.specs.Pieces.{bytes_put, room};
 ghost use Rattle.czi_plan.specs.Changing.{Brings, Stages, Starts, back_entries, front_entries, middle_entries, new_marks, new_spans, range_after, size_after, space_behind, tiles_before, tiles_behind, tiles_brought};
 ghost use Rattle.czi_plan.specs.Conditions.{IsMapOf};
 ghost use Rattle.czi_plan.specs.Listing.{AreSizes, HasRoomFor, IsPlace};
 ghost use Rattle.czi_plan.specs.Marks.{IsSized, mark_of};
-ghost use Rattle.czi_plan.specs.Plan.{dead_of, left_directory, usable_of};
 ghost use Rattle.czi_plan.specs.Kind.{of_subblocks};
 
-use crate::freeing::release;
+use crate::freeing::release_left;
 use crate::listing::list_tiles;
 use crate::marks::{Mark, link};
 use crate::plan::EditPlan;
 use crate::tiles::{Sizes, brought_tiles, listing_of, parts_of};
-use czi_image::{Act, DirItem, DirectoryChange, Index, Tile};
-use czi_num::Span;
+use czi_format::MOST_SUBBLOCKS;
+use czi_image::{Act, DirectoryChange, Index, Tile};
 use czi_region::Region;
 use czi_space::Map;
-use czi_spans::sort_spans;
 use std::alloc::{AllocError, Global};
 
 /// Makes room in a region for so many bytes, and for the data of a new directory behind them.
@@ -48,76 +42,6 @@ pub fn make_room(
     region.ensure(len + more)
 }
 
-/// Frees subblocks.
-fn release_tiles(
-    tiles: &[Tile],
-    freed: &mut Vec<Span>,
-    dead: &mut Vec<Span>,
-) -> Result<(), AllocError>
-    ensures freed { OnOk result (map span_of freed.new.items ≡ map span_of freed.old.items ++ usable_of (map tile_place tiles.now)) }
-    ensures dead { OnOk result (map span_of dead.new.items ≡ map span_of dead.old.items ++ dead_of (map tile_place tiles.now)) }
-{
-    for tile in tiles {
-        release(&tile.span, tile.walked, freed, dead)?;
-    }
-    Ok(())
-}
-
-/// Frees a directory for which there is a new one.
-fn release_directory(
-    change: &DirectoryChange,
-    directory: &Option<DirItem>,
-    freed: &mut Vec<Span>,
-    dead: &mut Vec<Span>,
-) -> Result<(), AllocError>
-    ensures freed { OnOk result (map span_of freed.new.items ≡ map span_of freed.old.items ++ usable_of (left_directory change.now directory.now)) }
-    ensures dead { OnOk result (map span_of dead.new.items ≡ map span_of dead.old.items ++ dead_of (left_directory change.now directory.now)) }
-{
-    if let (DirectoryChange::New(_), Some(old)) = (change, directory) {
-        release(&old.span, old.walked, freed, dead)?;
-    }
-    Ok(())
-}
-
-/// Frees items that leave, which are held, and a directory for which there is a new one.
-pub fn release_held(
-    change: &DirectoryChange,
-    directory: &Option<DirItem>,
-    held: &[Span],
-    freed: &mut Vec<Span>,
-    dead: &mut Vec<Span>,
-) -> Result<(), AllocError>
-    requires no_freed { freed.old.items ≡ [] }
-    ensures freed { OnOk result ((left : List Place) → map span_of held.now ≡ usable_of left → map span_of freed.new.items ≡ sorted span_le (usable_of (left ++ left_directory change.now directory.now))) }
-    ensures dead { OnOk result ((left : List Place) → map span_of dead.old.items ≡ dead_of left → map span_of dead.new.items ≡ dead_of (left ++ left_directory change.now directory.now)) }
-{
-    freed.extend_from_slice(held)?;
-    release_directory(change, directory, freed, dead)?;
-    sort_spans(freed);
-    Ok(())
-}
-
-/// Frees subblocks that leave, and a directory for which there is a new one. The subblocks are held.
-fn release_left(
-    leaving: &[Tile],
-    change: &DirectoryChange,
-    directory: &Option<DirItem>,
-    held: &mut Vec<Span>,
-    freed: &mut Vec<Span>,
-    dead: &mut Vec<Span>,
-) -> Result<(), AllocError>
-    requires no_held { held.old.items ≡ [] }
-    requires no_freed { freed.old.items ≡ [] }
-    requires no_dead { dead.old.items ≡ [] }
-    ensures held { OnOk result (map span_of held.new.items ≡ usable_of (map tile_place leaving.now)) }
-    ensures freed { OnOk result (map span_of freed.new.items ≡ sorted span_le (usable_of (map tile_place leaving.now ++ left_directory change.now directory.now))) }
-    ensures dead { OnOk result (map span_of dead.new.items ≡ dead_of (map tile_place leaving.now ++ left_directory change.now directory.now)) }
-{
-    release_tiles(leaving, held, dead)?;
-    release_held(change, directory, held, freed, dead)?;
-    Ok(())
-}
-
 /// Plans an act once what it brings is staged, and it is known what becomes of the directory: what the directory lists,
 /// what leaves, the links, and the change of the index.
 pub fn stage_act(
@@ -132,7 +56,7 @@ pub fn stage_act(
 ) -> Result<(), AllocError>
     requires of_index { IsMapOf index.now space.now }
     requires within { AreWithin (act ∷ []) (length index.now.tiles.items) }
-    requires few { length (tiles_before act index.now.tiles.items ++ (tiles_brought act ++ tiles_behind act index.now.tiles.items)) ≤ 2 ^ 20 }
+    requires few { length (tiles_before act index.now.tiles.items ++ (tiles_brought act ++ tiles_behind act index.now.tiles.items)) ≤ MOST_SUBBLOCKS }
     requires sizes { AreSizes of_subblocks sizes.now (front_entries of_subblocks act index.now.tiles.items) (middle_entries of_subblocks act index.now.tiles.items) (back_entries of_subblocks act index.now.tiles.items) }
     requires starts { Starts of_subblocks space.now (new_spans of_subblocks act) out.old }
     requires brings { (c : Change Subblock) × Brings of_subblocks index.now space.now region.old act c out.old.writes.items }

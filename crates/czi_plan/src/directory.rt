@@ -9,7 +9,7 @@ ghost use Rattle.czi_plan.specs.Directory.{WritesEntries, data_in, directory_siz
 
 use crate::tiles::Listing;
 use czi_dv::{entry_len, write_directory_head, write_entry};
-use czi_format::DIRECTORY_FRONT;
+use czi_format::{DIRECTORY_FRONT, MOST_SUBBLOCKS};
 use czi_image::Tile;
 use czi_num::write_bytes;
 use czi_region::{Piece, Region, whole_piece, written_piece};
@@ -67,7 +67,7 @@ fn write_listing(listing: &Listing, at: usize, out: &mut [u8]) -> usize
 
 /// How many subblocks are listed.
 pub fn count_of(listing: &Listing) -> usize
-    requires { length (listed listing.now) ≤ 2 ^ 20 }
+    requires { length (listed listing.now) ≤ MOST_SUBBLOCKS }
     ensures { result ≡ length (listed listing.now) }
 {
     listing.before.len() + listing.brought.len() + listing.moved.len() + listing.still.len()
@@ -75,7 +75,7 @@ pub fn count_of(listing: &Listing) -> usize
 
 /// Writes the data of a directory over zeros.
 fn fill_directory(listing: &Listing, out: &mut [u8])
-    requires few { length (listed listing.now) ≤ 2 ^ 20 }
+    requires few { length (listed listing.now) ≤ MOST_SUBBLOCKS }
     requires zeros { out.old ≡ replicate (length out.old) 0 }
     requires room { directory_size (listed listing.now) ≤ length out.old }
     ensures written { out.new ≡ data_in (length out.old) (listed listing.now) }
@@ -87,7 +87,7 @@ fn fill_directory(listing: &Listing, out: &mut [u8])
 
 /// Puts the data of a directory into a region as one piece of `len` bytes, padded with zeros.
 pub fn stage_directory(listing: &Listing, len: usize, region: &mut Region) -> Piece
-    requires few { length (listed listing.now) ≤ 2 ^ 20 }
+    requires few { length (listed listing.now) ≤ MOST_SUBBLOCKS }
     requires long { directory_size (listed listing.now) ≤ len }
     requires room { len ≤ room region.old }
     ensures staged { PutsPiece region.old region.new result (data_in len (listed listing.now)) }

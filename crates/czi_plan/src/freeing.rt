@@ -1,16 +1,58 @@
-//! Spans that are freed, and the map of free space once they are.
+//! What leaves and is freed, and the map of free space once it is.
 
 ghost use Rattle.std.specs.Prelude.{◌≡◌, ◌⊎◌, ◌+◌, ◌*◌, ◌≤◌, ◌++◌, ◌∷◌, [], map, length, OnOk};
+ghost use Rattle.czi_format.specs.Layout.{Place};
 ghost use Rattle.czi_format.specs.Space.{without, with_all_freed, deleted_after};
 ghost use Rattle.czi_format.specs.Span.{span_le, sorted, IsWhole, LiesInOne};
+ghost use Rattle.czi_image.specs.Holds.{att_item_place, tile_place};
 ghost use Rattle.czi_num.specs.Span.{span_of};
 ghost use Rattle.czi_space.specs.State.{AreExtents, Has};
 ghost use Rattle.czi_plan.specs.Geometry.{AreFreed, AreUsed};
-ghost use Rattle.czi_plan.specs.Plan.{dead_of, usable_of};
+ghost use Rattle.czi_plan.specs.Plan.{dead_of, left_directory, usable_of};
 
+use czi_image::{AttItem, DirItem, DirectoryChange, Tile};
 use czi_num::Span;
 use czi_space::Map;
+use czi_spans::sort_spans;
 use std::alloc::AllocError;
+
+/// An item that a directory lists.
+pub trait Listed {
+    /// Where it lies, and whether the walk stands there.
+    ghost place: { Self → Place };
+
+    /// The extent of its segment.
+    fn span(&self) -> Span
+        ensures { span_of result ≡ (place self.now).span };
+
+    /// Whether the walk stands on it.
+    fn is_walked(&self) -> bool
+        ensures { result ≡ (place self.now).walked };
+}
+
+impl Listed for Tile {
+    ghost place = { tile_place };
+
+    fn span(&self) -> Span {
+        self.span
+    }
+
+    fn is_walked(&self) -> bool {
+        self.walked
+    }
+}
+
+impl Listed for AttItem {
+    ghost place = { att_item_place };
+
+    fn span(&self) -> Span {
+        self.span
+    }
+
+    fn is_walked(&self) -> bool {
+        self.walked
+    }
+}
 
 /// Frees a span: it is one that can be used again where the walk stands on it and it begins and ends at multiples
 /// of 32.
@@ -28,6 +70,60 @@ pub fn release(
     } else {
         dead.push(*span)?;
     }
+    Ok(())
+}
+
+/// Frees items that leave.
+fn release_items<I: Listed>(
+    items: &[I],
+    freed: &mut Vec<Span>,
+    dead: &mut Vec<Span>,
+) -> Result<(), AllocError>
+    ensures freed { OnOk result (map span_of freed.new.items ≡ map span_of freed.old.items ++ usable_of (map I.place items.now)) }
+    ensures dead { OnOk result (map span_of dead.new.items ≡ map span_of dead.old.items ++ dead_of (map I.place items.now)) }
+{
+    for item in items {
+        release(&item.span(), item.is_walked(), freed, dead)?;
+    }
+    Ok(())
+}
+
+/// Frees a directory for which there is a new one.
+fn release_directory(
+    change: &DirectoryChange,
+    directory: &Option<DirItem>,
+    freed: &mut Vec<Span>,
+    dead: &mut Vec<Span>,
+) -> Result<(), AllocError>
+    ensures freed { OnOk result (map span_of freed.new.items ≡ map span_of freed.old.items ++ usable_of (left_directory change.now directory.now)) }
+    ensures dead { OnOk result (map span_of dead.new.items ≡ map span_of dead.old.items ++ dead_of (left_directory change.now directory.now)) }
+{
+    if let (DirectoryChange::New(_), Some(old)) = (change, directory) {
+        release(&old.span, old.walked, freed, dead)?;
+    }
+    Ok(())
+}
+
+/// Frees items that leave, which are held, and a directory for which there is a new one.
+pub fn release_left<I: Listed>(
+    leaving: &[I],
+    change: &DirectoryChange,
+    directory: &Option<DirItem>,
+    held: &mut Vec<Span>,
+    freed: &mut Vec<Span>,
+    dead: &mut Vec<Span>,
+) -> Result<(), AllocError>
+    requires no_held { held.old.items ≡ [] }
+    requires no_freed { freed.old.items ≡ [] }
+    requires no_dead { dead.old.items ≡ [] }
+    ensures held { OnOk result (map span_of held.new.items ≡ usable_of (map I.place leaving.now)) }
+    ensures freed { OnOk result (map span_of freed.new.items ≡ sorted span_le (usable_of (map I.place leaving.now ++ left_directory change.now directory.now))) }
+    ensures dead { OnOk result (map span_of dead.new.items ≡ dead_of (map I.place leaving.now ++ left_directory change.now directory.now)) }
+{
+    release_items(leaving, held, dead)?;
+    freed.extend_from_slice(held)?;
+    release_directory(change, directory, freed, dead)?;
+    sort_spans(freed);
     Ok(())
 }
 

@@ -19,7 +19,7 @@ use crate::marks::{Mark, mark_header, mark_patch, mark_pointer};
 use crate::placing::{place, walks_at};
 use crate::plan::{EditPlan, PlanFault};
 use crate::tiles::{Listing, Sizes};
-use czi_format::DIRECTORY_POSITION;
+use czi_format::{DIRECTORY_POSITION, MOST_SUBBLOCKS};
 use czi_image::{DirItem, DirectoryChange, Index};
 use czi_num::{Span, round32};
 use czi_region::{Piece, Region};
@@ -85,7 +85,7 @@ fn patch_tiles(
     sizes: &Sizes,
     marks: &mut Vec<Mark>,
 ) -> Result<(), AllocError>
-    requires few { length (listed listing.now) ≤ 2 ^ 20 }
+    requires few { length (listed listing.now) ≤ MOST_SUBBLOCKS }
     requires sizes { AreSizes of_subblocks sizes.now (listed_front listing.now) (listed_middle listing.now) (listed_back listing.now) }
     requires room { has_room directory.now (directory_size (listed listing.now)) }
     requires sized { AllByRecursion IsSized marks.old.items }
@@ -154,7 +154,7 @@ fn write_tiles(
     out: &mut EditPlan,
     marks: &mut Vec<Mark>,
 ) -> Result<(), AllocError>
-    requires few { length (listed listing.now) ≤ 2 ^ 20 }
+    requires few { length (listed listing.now) ≤ MOST_SUBBLOCKS }
     requires sizes { AreSizes of_subblocks sizes.now (listed_front listing.now) (listed_middle listing.now) (listed_back listing.now) }
     requires long { has_room directory.now (directory_size (listed listing.now)) }
     requires room { directory.now.span.len - 32 ≤ room region.old }
@@ -188,7 +188,7 @@ pub fn list_tiles(
     out: &mut EditPlan,
     marks: &mut Vec<Mark>,
 ) -> Result<(), AllocError>
-    requires few { length (listed listing.now) ≤ 2 ^ 20 }
+    requires few { length (listed listing.now) ≤ MOST_SUBBLOCKS }
     requires sizes { AreSizes of_subblocks sizes.now (listed_front listing.now) (listed_middle listing.now) (listed_back listing.now) }
     requires ready { IsReady index.now.directory (directory_size (listed listing.now)) (room region.old) out.old.change.directory }
     requires sized { AllByRecursion IsSized marks.old.items }

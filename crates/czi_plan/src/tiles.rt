@@ -9,7 +9,7 @@ ghost use Rattle.czi_plan.specs.Directory.{back_of, entries_of, listed_back, lis
 ghost use Rattle.czi_plan.specs.Kind.{of_subblocks};
 
 use czi_dv::entry_len;
-use czi_format::{DIRECTORY_FRONT, LONGEST_ENTRY};
+use czi_format::{DIRECTORY_FRONT, LONGEST_ENTRY, MOST_SUBBLOCKS};
 use czi_image::{Act, Tile};
 use std::slice;
 
@@ -62,7 +62,7 @@ pub struct Parts<'a, T> {
 
 /// How many bytes the entries of these subblocks have.
 pub fn entries_len(tiles: &[Tile]) -> usize
-    requires { length tiles.now ≤ 2 ^ 20 }
+    requires { length tiles.now ≤ MOST_SUBBLOCKS }
     ensures len { result ≡ sum (map entry_len (entries_of tiles.now)) }
     ensures bound { result ≤ LONGEST_ENTRY * length tiles.now }
 {
@@ -87,7 +87,7 @@ fn len_before(tiles: &[Tile], total: usize, from: usize, rest: usize) -> usize
 pub fn sizes_after(tiles: &[Tile], total: usize, from: usize, to: usize, brought: usize) -> Sizes
     requires total { total ≡ sum (map entry_len (entries_of tiles.now)) }
     requires most { total ≤ LONGEST_ENTRY * length tiles.now }
-    requires few { length tiles.now ≤ 2 ^ 20 }
+    requires few { length tiles.now ≤ MOST_SUBBLOCKS }
     requires order { from ≤ to }
     requires inside { to ≤ length tiles.now }
     requires small { brought ≤ LONGEST_ENTRY }

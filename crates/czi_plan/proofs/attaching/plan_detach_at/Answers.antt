@@ -1,4 +1,4 @@
-use Rattle.std.proofs.Common.{◌≡◌, ◌+◌, ℕ, drop, take, [], refl, sym, ap, ◌∙◌, subst, arith, length}
+use Rattle.std.proofs.Common.{◌+◌, drop, take, [], ap, ◌∙◌, subst, arith, length}
 use Rattle.std.proofs.lemmas.Result.{err_from_is_err_and}
 use Rattle.czi_format.specs.Document.{Attachment}
 use Rattle.czi_image.specs.declared.change.Act.{Act as CodeAct}
@@ -9,9 +9,7 @@ use Rattle.czi_machine.specs.Change.{out as taken_out}
 use Rattle.czi_space.specs.State.{space_of}
 use Rattle.czi_plan.specs.Changing.{entries_in, range_after}
 use Rattle.czi_plan.specs.Kind.{of_attachments}
-use Rattle.czi_plan.specs.Listing.{AreSizes, IsPlace}
-use Rattle.czi_plan.specs.declared.tiles.Sizes.{Sizes}
-use Rattle.czi_plan.proofs.ActStages.{sizes_as}
+use Rattle.czi_plan.specs.Listing.{IsPlace}
 use Rattle.czi_plan.proofs.Attached.{count_as, out_count, sizes_for}
 use Rattle.czi_plan.proofs.Changed.{is_plan}
 use Rattle.czi_plan.proofs.Doing.{does}

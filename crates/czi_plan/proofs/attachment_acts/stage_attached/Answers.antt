@@ -1,4 +1,4 @@
-use Rattle.std.proofs.Common.{◌≡◌, ◌++◌, ◌∷◌, [], map, ap, sym, ◌∙◌, subst}
+use Rattle.std.proofs.Common.{◌++◌, ◌∷◌, [], map, ap, sym, ◌∙◌, subst}
 use Rattle.czi_image.specs.Change.{act_of}
 use Rattle.czi_image.specs.View.{att_item_of}
 use Rattle.czi_image.specs.declared.change.Act.{Act as CodeAct}

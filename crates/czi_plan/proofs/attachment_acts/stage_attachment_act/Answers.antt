@@ -38,7 +38,7 @@ list_attachments-requires-clause-ready c =
 
 pub link-requires-clause-in_order : goal.link-requires-clause-in_order
 link-requires-clause-in_order c =
-    in_place_order _ (usable_of (map att_item_place c.att_parts-parts.result.leaving.now ++ left_directory c.list_attachments.new.out.change.attdir c.args.index.now.attdir)) c.in_ok-release_gone.ensures.freed
+    in_place_order _ (usable_of (map att_item_place c.att_parts-parts.result.leaving.now ++ left_directory c.list_attachments.new.out.change.attdir c.args.index.now.attdir)) c.in_ok-release_left.ensures.freed
 
 pub link-requires-clause-can : goal.link-requires-clause-can
 link-requires-clause-can c =
@@ -52,8 +52,8 @@ link-requires-clause-can c =
     let left = are.leaving ∙ ap (tiles_leaving a) there in
     let same : c.list_attachments.new.out.change.attdir ≡ d = ap (λ (v : Change). v.attdir) (same_change att_laws a d c.args.region.now c.list_attachments.new.region c.args.out.now c.list_attachments.new.out (map mark_of c.list_attachments.new.marks.items) c.requires.of_index c.requires.starts c.requires.place c.in_ok-list_attachments.ensures.kept lists) in
     rw (
-      c.in_ok-release_gone.ensures.freed ∙ left_as of_attachments (λ l. sorted span_le (usable_of l)) a d _ x _ left same,
-      ap (map span_of) c.deref-2.ensures.value ∙ (c.in_ok-release_gone.ensures.dead ∙ left_as of_attachments dead_of a d _ x _ left same),
+      c.in_ok-release_left.ensures.freed ∙ left_as of_attachments (λ l. sorted span_le (usable_of l)) a d _ x _ left same,
+      ap (map span_of) c.deref-2.ensures.value ∙ (c.in_ok-release_left.ensures.dead ∙ left_as of_attachments dead_of a d _ x _ left same),
     ) (links_act att_laws a d c.args.region.now c.list_attachments.new.region c.args.out.now c.list_attachments.new.out (map mark_of c.list_attachments.new.marks.items) c.requires.of_index c.requires.starts c.requires.place c.in_ok-list_attachments.ensures.kept lists c.requires.brings.0 c.requires.brings.1)
 
 pub returns : goal.returns
@@ -82,9 +82,9 @@ returns c =
         attachments = c.in_ok-push.ensures.items ∙ ap (λ l. l ++ a ∷ []) (ap (λ (v : Change). v.attachments.items) becomes ∙ c.requires.starts.attachments);
         metadata = ap (λ (v : Change). v.metadata) becomes ∙ c.requires.starts.metadata;
       };
-      held = ap (λ (q : EditPlan). map span_of q.held.items) other ∙ (c.in_ok-release_gone.ensures.held ∙ ap (λ l. usable_of (map att_item_place l)) left);
-      freed = ap (λ (q : EditPlan). map span_of q.freed.items) other ∙ (c.in_ok-release_gone.ensures.freed ∙ left_as of_attachments (λ l. sorted span_le (usable_of l)) a d _ x _ left directory);
+      held = ap (λ (q : EditPlan). map span_of q.held.items) other ∙ (c.in_ok-release_left.ensures.held ∙ ap (λ l. usable_of (map att_item_place l)) left);
+      freed = ap (λ (q : EditPlan). map span_of q.freed.items) other ∙ (c.in_ok-release_left.ensures.freed ∙ left_as of_attachments (λ l. sorted span_le (usable_of l)) a d _ x _ left directory);
       dead = c.deref-2.result.now;
-      is_dead = ap (map span_of) c.deref-2.ensures.value ∙ (c.in_ok-release_gone.ensures.dead ∙ left_as of_attachments dead_of a d _ x _ left directory);
+      is_dead = ap (map span_of) c.deref-2.ensures.value ∙ (c.in_ok-release_left.ensures.dead ∙ left_as of_attachments dead_of a d _ x _ left directory);
       links = rw (ap (λ (q : EditPlan). map span_of q.used.items) other, ap (λ (q : EditPlan). map span_of q.freed.items) other) c.in_ok-link.ensures.linked;
     })

@@ -1,4 +1,4 @@
-use Rattle.std.proofs.Common.{◌≡◌, ◌++◌, flat_map, ap, sym, ◌∙◌, subst, append_assoc}
+use Rattle.std.proofs.Common.{◌++◌, flat_map, ap, sym, ◌∙◌, subst, append_assoc}
 use Rattle.std.specs.List.{AllByRecursion}
 use Rattle.czi_format.specs.Entry.{IsA1, a1_bytes}
 use Rattle.czi_machine.proofs.Tiled.{All-both}

@@ -1,5 +1,4 @@
-use Rattle.std.proofs.Common.{◌++◌, List, ap, length, sym, ◌∙◌, arith}
-use Rattle.czi_format.specs.Entry.{A1}
+use Rattle.std.proofs.Common.{ap, length, sym, ◌∙◌, arith}
 use Rattle.czi_plan.specs.Attaching.{att_back, att_front, att_middle}
 use Rattle.czi_plan.specs.Kind.{of_attachments}
 use Rattle.czi_plan.proofs.Attached.{a1s_long, counted}

@@ -1,4 +1,4 @@
-use Rattle.std.proofs.Common.{◌≡◌, ◌++◌, ◌+◌, ℕ, take, flat_map, ap, sym, ◌∙◌, append_assoc}
+use Rattle.std.proofs.Common.{◌++◌, ℕ, take, flat_map, ap, sym, ◌∙◌, append_assoc}
 use Rattle.czi_format.specs.Entry.{a1_bytes}
 use Rattle.czi_image.specs.View.{att_item_of}
 use Rattle.czi_plan.specs.Changing.{entries_in}

@@ -1,6 +1,6 @@
-use Rattle.std.proofs.Common.{◌≡◌, ◌+◌, ◌-◌, ℕ, List, ◌++◌, length, ap, sym, ◌∙◌, arith, rules, flat_map, pos}
+use Rattle.std.proofs.Common.{◌≡◌, ◌+◌, ◌-◌, ℕ, List, ◌++◌, length, ap, sym, ◌∙◌, arith, rules}
 use Rattle.czi_format.specs.Data.{attdir_data}
-use Rattle.czi_format.specs.Entry.{A1, a1_bytes, a1_len}
+use Rattle.czi_format.specs.Entry.{A1}
 use Rattle.czi_region.specs.Pieces.{bytes_put, room}
 use Rattle.czi_plan.specs.Attaching.{att_back, att_front, att_middle}
 use Rattle.czi_plan.specs.Kind.{of_attachments}

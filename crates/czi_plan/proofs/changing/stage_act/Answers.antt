@@ -1,13 +1,10 @@
-use Rattle.std.proofs.Common.{◌≡◌, ◌++◌, List, [], ◌∷◌, map, ap, sym, ◌∙◌, subst, Option}
-use Rattle.czi_format.specs.Entry.{Entry}
-use Rattle.czi_format.specs.Layout.{Place}
-use Rattle.czi_format.specs.Span.{Span, span_le, sorted}
+use Rattle.std.proofs.Common.{◌≡◌, ◌++◌, List, [], ◌∷◌, map, ap, ◌∙◌}
+use Rattle.czi_format.specs.Span.{span_le, sorted}
 use Rattle.czi_image.specs.Holds.{tile_place}
 use Rattle.czi_image.specs.declared.change.Act.{Act as CodeAct}
 use Rattle.czi_image.specs.declared.change.Change.{Change}
 use Rattle.czi_image.specs.declared.change.DirectoryChange.{DirectoryChange}
 use Rattle.czi_image.specs.declared.index.Index.{Index}
-use Rattle.czi_image.specs.declared.types.DirItem.{DirItem}
 use Rattle.czi_image.specs.declared.types.Tile.{Tile}
 use Rattle.czi_links.specs.Record.{Bytes}
 use Rattle.czi_num.specs.Span.{span_of}

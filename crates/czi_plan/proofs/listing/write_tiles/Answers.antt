@@ -1,6 +1,5 @@
-use Rattle.std.proofs.Common.{◌≡◌, ◌+◌, ◌-◌, ◌++◌, ◌∷◌, [], List, ap, ◌∙◌, map}
+use Rattle.std.proofs.Common.{◌-◌, ◌++◌, ◌∷◌, [], ap, ◌∙◌, map}
 use Rattle.czi_format.specs.Segment.{directory_id}
-use Rattle.czi_links.specs.Record.{Bytes}
 use Rattle.czi_plan.specs.Directory.{listed_back, listed_front, listed_middle}
 use Rattle.czi_plan.specs.Kind.{of_subblocks}
 use Rattle.czi_plan.specs.Marks.{head_mark, mark_of, pointer_mark}

@@ -1,4 +1,4 @@
-use Rattle.std.proofs.Common.{◌≡◌, ℕ, ◌<◌, get_or, length, ap, sym, ◌∙◌, arith, inl, inr, bytes_eq}
+use Rattle.std.proofs.Common.{◌≡◌, ◌<◌, get_or, length, ap, sym, ◌∙◌, arith, inl, inr, bytes_eq}
 use Rattle.std.proofs.lemmas.Bool.{cases_lt}
 use Rattle.czi_doc.specs.View.{att_of}
 use Rattle.czi_format.specs.Key.{attachment_key}
