@@ -61,7 +61,7 @@ use Rattle.czi_plan.specs.Marks.{AreInOrder, CanLink, byte_span, head_mark, is_n
 use Rattle.czi_plan.specs.Pieces.{bytes_in, last_end, piece_of, pieces_of, writes_of}
 use Rattle.czi_plan.specs.Placing.{IsFull}
 use Rattle.czi_plan.specs.Plan.{IsPlan, dead_of, extents_after, freed_of, left_directory, left_items, left_places, usable_of, used_of}
-use Rattle.czi_plan.specs.Setting.{IsItemOf, IsPlacedIn, IsStagedIn, SetsAlone, StagesMetadata, length_with, metadata_left, metadata_marks}
+use Rattle.czi_plan.specs.Setting.{IsMetaItemOf, IsPlacedIn, IsStagedIn, SetsAlone, StagesMetadata, length_with, metadata_left, metadata_marks}
 use Rattle.czi_plan.specs.declared.plan.EditPlan.{EditPlan}
 use Rattle.czi_plan.specs.declared.plan.PlanFault.{PlanFault}
 use Rattle.czi_plan.specs.declared.plan.PlanFault.TheVariants.{Full as Filled, Memory}
@@ -181,7 +181,7 @@ length-metadata : length metadata_id ≡ 16
 unfolding metadata_id
 length-metadata = refl
 
-pub id_length : (d : Metadata) (i : MetaItem) → IsItemOf d i.span i → length (meta_item_of i).segment.id ≡ 16
+pub id_length : (d : Metadata) (i : MetaItem) → IsMetaItemOf d i.span i → length (meta_item_of i).segment.id ≡ 16
 id_length d i is = ap (length {A = ℕ}) is.item.id ∙ length-metadata
 
 abbrev pub writes_for : MetaItem → Metadata → ℕ → List Bytes
@@ -194,7 +194,7 @@ data_long region d i writes staged = omega (arith, ap (length {A = ℕ}) staged.
 abbrev pub written_spans : MetaItem → List Span
 written_spans i = record { at = 92; len = 8 } ∷ meta_item_span i ∷ []
 
-own_marks : (top : ℕ) (region : Region) (d : Metadata) (i : MetaItem) (writes : List (ℕ × Range)) (staged : IsStagedIn region d i writes) → IsItemOf d i.span i → AllByRecursion (IsLong top) (meta_item_span i ∷ [])
+own_marks : (top : ℕ) (region : Region) (d : Metadata) (i : MetaItem) (writes : List (ℕ × Range)) (staged : IsStagedIn region d i writes) → IsMetaItemOf d i.span i → AllByRecursion (IsLong top) (meta_item_span i ∷ [])
     → OwnMarks top 4 131104 (writes_for i d staged.padding) (metadata_marks i) (written_spans i)
 own_marks top region d i writes staged is long =
     let two : Bytes = head_mark (meta_item_of i).segment in
@@ -211,12 +211,12 @@ own_marks top region d i writes staged is long =
       short = omega (arith, sum_by-cons (λ (b : Bytes). length b.bytes) (pointer_mark 92 i.span.at) (two ∷ []), sum_by-cons (λ (b : Bytes). length b.bytes) two [], head');
     }
 
-are_own : (top : ℕ) (region : Region) (d : Metadata) (i : MetaItem) (writes : List (ℕ × Range)) (staged : IsStagedIn region d i writes) → IsItemOf d i.span i → AllByRecursion (IsLong top) (meta_item_span i ∷ [])
+are_own : (top : ℕ) (region : Region) (d : Metadata) (i : MetaItem) (writes : List (ℕ × Range)) (staged : IsStagedIn region d i writes) → IsMetaItemOf d i.span i → AllByRecursion (IsLong top) (meta_item_span i ∷ [])
     → AreOwn top 92 (meta_item_span i ∷ []) [] (writes_for i d staged.padding) (metadata_marks i)
 are_own top region d i writes staged is long = record { high = omega arith; spans = written_spans i; marks = own_marks top region d i writes staged is long; within = λ q. omega (arith, at_place) }
 
 -- So the links can be put.
-pub metadata_links : (x : Index) (m : MapState) (d : Metadata) (i : MetaItem) (region : Region) (writes : List (ℕ × Range)) → IsMapOf x m → IsItemOf d i.span i → IsPlacedIn x m d i → IsStagedIn region d i writes
+pub metadata_links : (x : Index) (m : MapState) (d : Metadata) (i : MetaItem) (region : Region) (writes : List (ℕ × Range)) → IsMapOf x m → IsMetaItemOf d i.span i → IsPlacedIn x m d i → IsStagedIn region d i writes
     → CanLink m.length (meta_item_span i ∷ []) (sorted span_le (usable_of (metadata_left x))) (dead_of (metadata_left x)) m.extents (metadata_marks i)
 metadata_links x m d i region writes is item placed staged =
     let parts = parts_of x m d i is placed in
@@ -381,10 +381,10 @@ needs_are : (s : State) (d : Metadata) → needs_of s (to_metadata d) ≡ metada
 needs_are s d = λ j. metadata_need d ∷ (directory_needs (tiles_keep s d j) (directory_need s.document.subblocks) ++ directory_needs (attachments_keep s d j) (attdir_need s.document.attachments))
 
 -- an item in a span that was found
-pub item_there : (d : Metadata) (p : CodeSpan) (i : MetaItem) → IsItemOf d p i → IsItemOf d i.span i
+pub item_there : (d : Metadata) (p : CodeSpan) (i : MetaItem) → IsMetaItemOf d p i → IsMetaItemOf d i.span i
 item_there d p i is = record { span_is = refl; item = is.item; used = is.used }
 
-pub placed_there : (x : Index) (m : MapState) (d : Metadata) (p : CodeSpan) (i : MetaItem) → IsItemOf d p i → i.walked ≡ (nat_lt i.span.at x.length || walks_on x) → fit (space_in m) (metadata_need d) ≡ Ok (record { span = span_of p; space = use_span (space_in m) (span_of p) })
+pub placed_there : (x : Index) (m : MapState) (d : Metadata) (p : CodeSpan) (i : MetaItem) → IsMetaItemOf d p i → i.walked ≡ (nat_lt i.span.at x.length || walks_on x) → fit (space_in m) (metadata_need d) ≡ Ok (record { span = span_of p; space = use_span (space_in m) (span_of p) })
     → IsPlacedIn x m d i
 placed_there x m d p i is walked fits = record {
   fits = subst (λ (z : CodeSpan). fit (space_in m) (metadata_need d) ≡ Ok (record { span = span_of z; space = use_span (space_in m) (span_of z) })) (sym is.span_is) fits;

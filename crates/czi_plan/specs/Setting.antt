@@ -33,7 +33,7 @@ abbrev pub metadata_of : NewMetadata → Metadata
 metadata_of n = metadata_in n.xml.now n.tail.now
 
 -- The item of metadata that lie in a span.
-pub record IsItemOf (d : Metadata) (span : CodeSpan) (i : MetaItem) : Type 0 where
+pub record IsMetaItemOf (d : Metadata) (span : CodeSpan) (i : MetaItem) : Type 0 where
   pub span_is : i.span ≡ span
   pub item : IsMetadata (meta_item_of i) d
   pub used : i.head.used ≡ length (metadata_data d 0)
@@ -75,7 +75,7 @@ pub record SetsAlone (i : MetaItem) (p : EditPlan) : Type 0 where
 -- The plan that sets metadata: they are staged, their span is used, the old ones are freed, and the links are put.
 pub record StagesMetadata (x : Index) (m : MapState) (d : Metadata) (region : Region) (new : EditPlan) : Type 0 where
   pub item : MetaItem
-  pub is : IsItemOf d item.span item
+  pub is : IsMetaItemOf d item.span item
   pub placed : IsPlacedIn x m d item
   pub staged : IsStagedIn region d item new.writes.items
   pub change : SetsAlone item new

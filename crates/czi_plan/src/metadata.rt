@@ -17,7 +17,7 @@ ghost use Rattle.czi_plan.specs.Conditions.{IsEmpty, IsMapOf};
 ghost use Rattle.czi_plan.specs.Does.{Does, HasNoPlan};
 ghost use Rattle.czi_plan.specs.Marks.{IsSized, mark_of};
 ghost use Rattle.czi_plan.specs.Plan.{IsPlan, dead_of, usable_of};
-ghost use Rattle.czi_plan.specs.Setting.{IsItemOf, IsPlacedIn, IsStagedIn, StagesMetadata, metadata_left, metadata_marks, metadata_of};
+ghost use Rattle.czi_plan.specs.Setting.{IsMetaItemOf, IsPlacedIn, IsStagedIn, StagesMetadata, metadata_left, metadata_marks, metadata_of};
 
 use crate::freeing::release;
 use crate::marks::{Mark, link, mark_header, mark_pointer};
@@ -43,7 +43,7 @@ fn stage_metadata(
     out: &mut EditPlan,
     marks: &mut Vec<Mark>,
 ) -> Result<(), AllocError>
-    requires item { IsItemOf (metadata_of new.now) item.now.span item.now }
+    requires item { IsMetaItemOf (metadata_of new.now) item.now.span item.now }
     requires long { item.now.span.len ≡ metadata_need (metadata_of new.now) }
     requires room { item.now.span.len - 32 ≤ room region.old }
     requires no_marks { marks.old.items ≡ [] }

@@ -27,7 +27,7 @@ impl<'a> NewMetadata<'a> {
     ghost use Rattle.std.specs.Prelude.{◌≡◌, ◌+◌, ◌||◌, nat_lt};
     ghost use Rattle.czi_image.specs.Applied.{walks_on};
     ghost use Rattle.czi_machine.specs.Places.{metadata_need};
-    ghost use Rattle.czi_plan.specs.Setting.{IsItemOf, metadata_of};
+    ghost use Rattle.czi_plan.specs.Setting.{IsMetaItemOf, metadata_of};
 
     /// How many bytes their data has with padding.
     pub fn data_len(&self) -> usize
@@ -41,7 +41,7 @@ impl<'a> NewMetadata<'a> {
     pub fn item(&self, index: &Index, span: Span) -> MetaItem
         requires long { span.len ≡ metadata_need (metadata_of self.now) }
         requires ends { span.at + span.len ≤ 2 ^ 62 }
-        ensures item { IsItemOf (metadata_of self.now) span result }
+        ensures item { IsMetaItemOf (metadata_of self.now) span result }
         ensures walked { result.walked ≡ (nat_lt result.span.at index.now.length || walks_on index.now) }
     {
         let (xml, tail) = (self.xml.len(), self.tail.len());

@@ -4,7 +4,7 @@
 /// bytes are read. A line is read whole before its word is looked at.
 #[derive(Clone, Copy, PartialEq, Eq)]
 pub enum Kind {
-    /// The input ends within a line that has at most 4,095 bytes so far.
+    /// The input ends within a line that has at most 4,095 bytes so far, or within a payload.
     Cut,
     /// The first 4,096 bytes of a line hold no line feed.
     Long,
