@@ -82,8 +82,8 @@ impl Engine {
     ///
     /// # Errors
     ///
-    /// After `NotEmpty` and `Memory` both files are synced, and as they were. After a fault of a device, where both files
-    /// were synced before, the image is the empty document, or no file that can be opened.
+    /// After `NotEmpty` and `Memory` both files are synced, and as they were. After a fault of a device they are as they were, or,
+    /// once both were synced, open to the empty document or are refused: as no CZI file, or for what the old journal says.
     pub fn create<R: Rig>(
         alloc: Global,
         rig: &mut R,
