@@ -12,3 +12,4 @@ pub mod Begun
 pub mod FaultFirst
 pub mod Numbers
 pub mod Numbered
+pub mod PlaneItems

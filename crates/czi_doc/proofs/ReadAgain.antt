@@ -20,7 +20,7 @@ read_ok it rest = Ok (record { it = it; rest = rest })
 read_is : {X : Type 0} (a b : X) (r s : List ℕ) → a ≡ b → r ≡ s → read_ok a r ≡ read_ok b s
 read_is a b r s e f = cc
 
-begins_at : (c b : ℕ) (bytes : List ℕ) → begins_with c (b ∷ bytes) ≡ (b == c)
+pub begins_at : (c b : ℕ) (bytes : List ℕ) → begins_with c (b ∷ bytes) ≡ (b == c)
 begins_at c b bytes = there (ne_eqb (suc (length bytes)) 0 (λ none. omega (arith, none)))
   where
     there : (suc (length bytes) == 0) ≡ false → begins_with c (b ∷ bytes) ≡ (b == c)
@@ -151,7 +151,7 @@ number_again text bytes (negsuc n) is fits stop = ap (λ l. number_at (l ++ byte
     minus t = rw t
 
 -- a number doesn't begin with a letter
-no_letter : (text bytes : List ℕ) (z : ℤ) → IsNumber text z → prefix_len is_letter (text ++ bytes) ≡ 0
+pub no_letter : (text bytes : List ℕ) (z : ℤ) → IsNumber text z → prefix_len is_letter (text ++ bytes) ≡ 0
 no_letter text bytes (pos n) is = natural text is
   where
     other : (b : ℕ) (more : List ℕ) → digit_value b < 10 → prefix_len is_letter (b ∷ more) ≡ 0

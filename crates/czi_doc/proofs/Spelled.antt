@@ -13,7 +13,7 @@ use Rattle.czi_format.specs.Entry.{Dim}
 use Rattle.czi_doc.specs.Reading.{Read, name_len, name_at, number_len, magnitude_at, negative_at, positive_at, begins_with, number_at, Sizes, stored_at, sizes_at, item_at, behind, items_at}
 use Rattle.czi_doc.proofs.Prefixes.{front_digits}
 
-same_ok : {X : Type 0} (x y : X) (r : Result X ℕ) → r ≡ Ok x → r ≡ Ok y → x ≡ y
+pub same_ok : {X : Type 0} (x y : X) (r : Result X ℕ) → r ≡ Ok x → r ≡ Ok y → x ≡ y
 same_ok x y r p q = cc
 
 no_err : {X : Type 0} {P : Type 0} (left : ℕ) (y : X) (r : Result X ℕ) → r ≡ Err left → r ≡ Ok y → P
@@ -197,12 +197,12 @@ number_found bytes r e = elim (cases_Bool (begins_with 45 bytes)) [
     plus : begins_with 45 bytes ≡ false → number_at bytes ≡ positive_at bytes
     plus t = rw t
 
-record Bound {A B : Type 0} (r : Result A ℕ) (f : A → Result B ℕ) (y : B) : Type 0 where
-  first : A
-  is : r ≡ Ok first
-  then_is : f first ≡ Ok y
+pub record Bound {A B : Type 0} (r : Result A ℕ) (f : A → Result B ℕ) (y : B) : Type 0 where
+  pub first : A
+  pub is : r ≡ Ok first
+  pub then_is : f first ≡ Ok y
 
-bind_ok : {A B : Type 0} (r : Result A ℕ) (f : A → Result B ℕ) (y : B) → (r >>= f) ≡ Ok y → Bound r f y
+pub bind_ok : {A B : Type 0} (r : Result A ℕ) (f : A → Result B ℕ) (y : B) → (r >>= f) ≡ Ok y → Bound r f y
 bind_ok (Ok x) f y e = record { first = x; is = refl; then_is = e }
 bind_ok (Err left) f y e = cc
 

@@ -45,7 +45,7 @@ fn number_len(text: &[u8]) -> usize
 
 /// A name of one to four letters, padded with zero bytes, and the text behind it.
 #[tactic(auto, unfolding(crate::specs::Reading::name_at))]
-fn read_name(text: &[u8]) -> Result<([u8; 4], &[u8]), usize>
+pub(crate) fn read_name(text: &[u8]) -> Result<([u8; 4], &[u8]), usize>
     ensures read { seen (λ x. record { it = x.0; rest = x.1.now }) result ≡ name_at text.now }
     ensures left { MatchResult result (λ x. length x.1.now ≤ length text.now) (λ left. left ≤ length text.now) }
 {
@@ -115,14 +115,14 @@ fn read_positive(text: &[u8]) -> Result<(i32, &[u8]), usize>
 }
 
 /// Whether a byte stands at the front.
-fn begins_with(text: &[u8], byte: u8) -> bool
+pub(crate) fn begins_with(text: &[u8], byte: u8) -> bool
     ensures { result ≡ begins_with byte text.now }
 {
     !text.is_empty() && text[0] == byte
 }
 
 /// A number that is in the range of its field, and the text behind it.
-fn read_number(text: &[u8]) -> Result<(i32, &[u8]), usize>
+pub(crate) fn read_number(text: &[u8]) -> Result<(i32, &[u8]), usize>
     ensures read { seen (λ x. record { it = x.0; rest = x.1.now }) result ≡ number_at text.now }
     ensures left { MatchResult result (λ x. length x.1.now ≤ length text.now) (λ left. left ≤ length text.now) }
 {

@@ -2,6 +2,7 @@
 #![tactic(auto)]
 
 mod numbers;
+mod regions;
 
 ghost use Rattle.std.specs.Prelude.{◌≡◌, ◌⊎◌, ℕ, ◌+◌, ◌^◌, ◌<◌, ◌≤◌, ◌++◌, pos, List, length, flat_map};
 ghost use Rattle.std.specs.List.{AllByRecursion};
@@ -24,6 +25,7 @@ pub use numbers::{
     LEAST_HEADER_DATA, LONGEST_ENTRY, METADATA_POSITION, MOST_ATTACHMENTS, MOST_SUBBLOCKS,
     TEXT_LIMIT, UPDATE_PENDING,
 };
+pub use regions::REGION_LIMIT;
 
 /// An image shows at most one document.
 pub fn one_document()
