@@ -1,0 +1,9 @@
+pub mod Order
+pub mod Points
+pub mod Windows
+pub mod Chosen
+pub mod Covers
+pub mod Turns
+pub mod Passed
+pub mod Celled
+pub mod Gridded
