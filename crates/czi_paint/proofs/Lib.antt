@@ -1,0 +1,5 @@
+pub mod Overlays
+pub mod Patched
+pub mod Named
+pub mod Painted
+pub mod InDocument

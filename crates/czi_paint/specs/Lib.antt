@@ -1,0 +1,4 @@
+pub mod Patches
+pub mod Refusing
+pub mod Patched
+pub mod Painted
