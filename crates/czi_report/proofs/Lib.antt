@@ -3,3 +3,5 @@ pub mod Lines
 pub mod Held
 pub mod Contents
 pub mod Described
+pub mod Turning
+pub mod Rows

@@ -2,3 +2,4 @@ pub mod States
 pub mod Text
 pub mod Refusals
 pub mod Replies
+pub mod Pnm
