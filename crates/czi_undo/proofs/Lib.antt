@@ -1,0 +1,6 @@
+mod Found
+mod Kept
+mod Steps
+mod Telling
+pub mod ToldAgain
+mod Undone

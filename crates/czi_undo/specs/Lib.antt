@@ -1,0 +1,7 @@
+pub mod Bounds
+pub mod Formers
+pub mod Laws
+pub mod Parts
+pub mod Stands
+pub mod Told
+pub mod View
