@@ -17,3 +17,4 @@ pub mod Brought
 pub mod ActStages
 pub mod Attached
 pub mod Setting
+mod ItemsBack

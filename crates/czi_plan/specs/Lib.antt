@@ -13,3 +13,5 @@ pub mod Changing
 pub mod Bringing
 pub mod Attaching
 pub mod Setting
+pub mod Need
+pub mod Undoing

@@ -25,6 +25,7 @@ use crate::attachments::{att_parts, att_sizes};
 use crate::bringing::Seat;
 use crate::changing::make_room;
 use crate::listing::plan_directory;
+use crate::names::{attachment_key, attachment_with};
 use crate::placing::place;
 use crate::plan::{EditPlan, PlanFault};
 use czi_att::att_size;
@@ -185,4 +186,70 @@ pub fn plan_reattach_at(
     ensures full { IfErr result (HasNoPlan index.now space.now (in_attachments (put i (attachment_in info.now bytes.now)))) }
 {
     plan_attached(alloc, index, space, Seat::Over(i), info, bytes, region, out)
+}
+
+/// Plans the replacement of the first attachment that has the name of the new one, up to its first zero byte. The new one stands
+/// in its place in the directory, and lies elsewhere: the old one's span is held.
+///
+/// The attachment goes where its need fits first, and then the directory is planned in the space that is left, as for a new
+/// one: in place nothing but the one entry is written. The attachment's data are one write, from a piece of the region, into
+/// which the bytes are copied once, and its header is a link.
+///
+/// # Errors
+///
+/// `Full` exactly where the attachment or a new directory has no place, and else `Memory`. Nothing is said of `region` and
+/// `out` then.
+pub fn plan_reattach(
+    alloc: Global,
+    index: &Index,
+    space: &Map,
+    info: &AttInfo,
+    bytes: &[u8],
+    region: &mut Region,
+    out: &mut EditPlan,
+) -> Result<(), PlanFault>
+    requires empty { IsEmpty out.old }
+    requires reset { bytes_put region.old ≡ [] }
+    requires of_index { IsMapOf index.now space.now }
+    requires some { IsSome (attachment_with (attachment_key (att_of info.now)) (map att_item_of index.now.attachments.items)) }
+    requires bytes { length bytes.now ≤ DATA_LIMIT }
+    ensures plan { OnOk result (IsPlan index.now space.now region.new out.new) }
+    ensures does { OnOk result ((i : ℕ) → attachment_with (attachment_key (att_of info.now)) (map att_item_of index.now.attachments.items) ≡ Some i → Does index.now space.now region.new out.new (in_attachments (put i (attachment_in info.now bytes.now)))) }
+    ensures held { OnOk result (length out.new.held.items ≤ 1) }
+    ensures full { IfErr result (λ fault. (i : ℕ) → attachment_with (attachment_key (att_of info.now)) (map att_item_of index.now.attachments.items) ≡ Some i → HasNoPlan index.now space.now (in_attachments (put i (attachment_in info.now bytes.now))) fault) }
+{
+    let i = attachment_with(index, attachment_key(info)).unwrap();
+    plan_reattach_at(alloc, index, space, i, info, bytes, region, out)
+}
+
+/// Plans the removal of the first attachment with a name.
+///
+/// The directory is changed in place where it has room for the entries of the others and those behind the attachment are at most
+/// 65,536 bytes: its UsedSize, its EntryCount and these entries are links. Else a new directory, with room for more, goes where
+/// its need fits first: its data are one write, from a piece of the region, and AttachmentDirectoryPosition and its header are
+/// links.
+///
+/// # Errors
+///
+/// `Full` exactly where the directory isn't changed in place and a new one has no place, and else `Memory`. Nothing is
+/// said of `region` and `out` then.
+pub fn plan_detach(
+    alloc: Global,
+    index: &Index,
+    space: &Map,
+    name: &[u8],
+    region: &mut Region,
+    out: &mut EditPlan,
+) -> Result<(), PlanFault>
+    requires empty { IsEmpty out.old }
+    requires reset { bytes_put region.old ≡ [] }
+    requires of_index { IsMapOf index.now space.now }
+    requires some { IsSome (attachment_with name.now (map att_item_of index.now.attachments.items)) }
+    ensures plan { OnOk result (IsPlan index.now space.now region.new out.new) }
+    ensures does { OnOk result ((i : ℕ) → attachment_with name.now (map att_item_of index.now.attachments.items) ≡ Some i → Does index.now space.now region.new out.new (in_attachments (taken_out i))) }
+    ensures held { OnOk result (length out.new.held.items ≤ 1) }
+    ensures full { IfErr result (λ fault. (i : ℕ) → attachment_with name.now (map att_item_of index.now.attachments.items) ≡ Some i → HasNoPlan index.now space.now (in_attachments (taken_out i)) fault) }
+{
+    let i = attachment_with(index, name).unwrap();
+    plan_detach_at(alloc, index, space, i, region, out)
 }

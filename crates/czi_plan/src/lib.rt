@@ -13,28 +13,27 @@ mod freeing;
 mod listing;
 mod marks;
 mod metadata;
-#[cfg(test)]
-mod metadata_tests;
 mod names;
+mod need;
 mod new_metadata;
 mod placing;
 mod plan;
 mod removal;
 mod replacing;
+mod returning;
 mod search;
 mod staging;
 mod subblock;
-#[cfg(test)]
-mod tests;
 mod tiles;
 mod touching;
 
 pub use adding::plan_add;
-pub use attaching::{plan_attach, plan_detach_at, plan_reattach_at};
+pub use attaching::{plan_attach, plan_detach, plan_detach_at, plan_reattach, plan_reattach_at};
 pub use freeing::update_map;
 pub use metadata::plan_set_meta;
 pub use names::{attachment_key, attachment_with};
-pub use plan::{EditPlan, PlanFault};
+pub use need::{Need, need_of_inverse};
+pub use plan::{EditPlan, PlanFault, Records};
 pub use removal::{plan_remove, plan_remove_at};
 pub use replacing::{plan_replace, plan_replace_at};
 pub use search::tile_with;

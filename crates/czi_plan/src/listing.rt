@@ -28,7 +28,7 @@ use czi_space::Map;
 use std::alloc::{AllocError, Global};
 
 /// How many bytes of a directory's data are written in place at most.
-const LONGEST_RANGE: usize = 65_536;
+pub const LONGEST_RANGE: usize = 65_536;
 
 /// The least room for more that a new directory has, in bytes.
 const LEAST_SLACK: usize = 1024;
@@ -45,7 +45,7 @@ fn fits_in_place(directory: &Option<DirItem>, size: usize, range: usize) -> bool
 }
 
 /// The size of a directory's data with room for more.
-fn with_slack(size: usize) -> usize
+pub fn with_slack(size: usize) -> usize
     requires { size ≤ 2 ^ 40 }
     ensures { result ≡ with_slack size }
 {

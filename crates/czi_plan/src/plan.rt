@@ -1,13 +1,18 @@
 //! A plan, and why there is none.
 
-ghost use Rattle.std.specs.Prelude.{◌≡◌};
+ghost use Rattle.std.specs.Prelude.{◌≡◌, ◌≤◌, vec_len, vec_capacity, OnOk};
 ghost use Rattle.czi_plan.specs.declared.plan.PlanFault.TheVariants.{Memory};
 
+use crate::need::Need;
+use czi_doc::Dim;
 use czi_image::Change;
 use czi_links::Links;
 use czi_num::Span;
 use czi_region::Piece;
 use std::alloc::{AllocError, Global};
+
+/// How many records the dimensions of a subblock are at most.
+const MOST_RECORDS: usize = 40;
 
 /// The plan of an edit. Places, spans and lengths are in bytes.
 #[derive(Drop)]
@@ -24,8 +29,19 @@ pub struct EditPlan {
     pub freed: Vec<Span>,
     /// Those of them in which items lay: an undo can bring them back.
     pub held: Vec<Span>,
+    /// Memory for the dimensions of subblocks that come back.
+    pub dimensions: Vec<Records>,
     /// The image's length afterwards.
     pub length: u64,
+    alloc: Global,
+}
+
+/// Memory for the dimensions of a subblock: a list with room for 40 records.
+#[derive(Drop)]
+pub struct Records {
+    /// The list.
+    pub list: Vec<Dim>,
+    pub ghost room: { 40 ≤ vec_capacity list },
 }
 
 /// Why an edit has no plan.
@@ -52,6 +68,7 @@ impl From<AllocError> for PlanFault {
 
 impl EditPlan {
     ghost use Rattle.czi_plan.specs.Conditions.{IsEmpty};
+    ghost use Rattle.czi_plan.specs.Need.{HasSpare, PlansSame};
 
     /// A plan without anything in it. It takes no memory.
     pub fn new(alloc: Global) -> EditPlan
@@ -64,7 +81,9 @@ impl EditPlan {
             used: Vec::new(alloc),
             freed: Vec::new(alloc),
             held: Vec::new(alloc),
+            dimensions: Vec::new(alloc),
             length: 0,
+            alloc,
         }
     }
 
@@ -80,4 +99,33 @@ impl EditPlan {
         self.held.clear();
         self.length = 0;
     }
+    /// Makes spare memory for as much as a need says. What is planned stays, also where there is no memory.
+    pub fn reserve(&mut self, need: &Need) -> Result<(), AllocError>
+        ensures spare { OnOk result (HasSpare need.now self.new) }
+        ensures same { PlansSame self.old self.new }
+    {
+        self.writes.reserve(need.writes)?;
+        self.links.reserve(need.links, need.link_bytes)?;
+        self.used.reserve(need.spans)?;
+        self.freed.reserve(need.spans)?;
+        self.held.reserve(need.spans)?;
+        self.change.tiles.reserve(need.spans)?;
+        self.change.attachments.reserve(need.spans)?;
+        reserve_records(self.alloc, need.spans, &mut self.dimensions)
+    }
+}
+
+/// Makes as many lists for the dimensions of subblocks.
+fn reserve_records(
+    alloc: Global,
+    count: usize,
+    dimensions: &mut Vec<Records>,
+) -> Result<(), AllocError>
+    ensures { OnOk result (count ≤ vec_len dimensions.new) }
+{
+    for _ in dimensions.len()..count {
+        let list = Vec::with_capacity(alloc, MOST_RECORDS)?;
+        dimensions.push(Records { list })?;
+    }
+    Ok(())
 }

@@ -3,7 +3,7 @@ use Rattle.czi_num.specs.Span.{span_of}
 use Rattle.czi_num.specs.declared.span.Span.{Span as CodeSpan}
 use Rattle.czi_space.specs.State.{AreExtents}
 use Rattle.czi_plan.proofs.Parts.{free_extents}
-use Rattle.czi_plan.proofs.tests.map_of.Goals as goal
+use Rattle.czi_test_plan.proofs.plans.map_of.Goals as goal
 
 pub of_runs-requires : goal.of_runs-requires
 of_runs-requires c =

@@ -1,9 +1,11 @@
 //! Tests of the plan that sets the metadata.
 
-use crate::tests::{Part, first_write, index_of, map_of, pairs_of, places_of};
-use crate::{EditPlan, plan_set_meta};
+use crate::documents::{ONE, index_in};
+use crate::plans::{first_write, map_of, pairs_of, places_of};
 use czi_image::Index;
+use czi_plan::{EditPlan, plan_set_meta};
 use czi_region::{Piece, Region};
+use czi_sample::{Segment, TILE};
 use std::alloc::Global;
 use std::test::Fail;
 
@@ -13,35 +15,61 @@ const TAIL: &[u8] = b"z";
 
 // What is planned: the length, what is used, what is freed, and the links' places and lengths.
 struct Row {
-    len: usize,
-    changes: &'static [Part],
+    segments: &'static [Segment<'static>],
     length: u64,
     used: &'static [(u64, u64)],
     freed: &'static [(u64, u64)],
     links: &'static [(u64, usize)],
 }
 
+// The document of one subblock with these segments behind it.
+const HOLE: &[Segment] = &[
+    Segment::Deleted(128),
+    TILE,
+    Segment::Directory(96),
+    Segment::Deleted(288),
+];
+
+const LARGER_HOLE: &[Segment] = &[
+    Segment::Deleted(128),
+    TILE,
+    Segment::Directory(96),
+    Segment::Deleted(384),
+];
+
+const OLD: &[Segment] = &[
+    Segment::Deleted(128),
+    TILE,
+    Segment::Directory(96),
+    Segment::Metadata(b"<b/>", b""),
+];
+
+const UNPADDED: &[Segment] = &[
+    Segment::Deleted(128),
+    TILE,
+    Segment::Directory(96),
+    Segment::Metadata(b"<b/>", b""),
+    Segment::Unpadded,
+];
+
 static ROWS: [Row; 5] = [
     // there were none: behind the document, since the hole of 160 bytes is too short; into a hole, and into one with more room
     Row {
-        len: 1280,
-        changes: &[],
+        segments: ONE,
         length: 1600,
         used: &[(1280, 320)],
         freed: &[],
         links: &[(92, 8), (1280, 32)],
     },
     Row {
-        len: 1600,
-        changes: &[(1280, b"DELETED"), (1296, &[0x20, 1])],
+        segments: HOLE,
         length: 1600,
         used: &[(1280, 320)],
         freed: &[],
         links: &[(92, 8), (1280, 32)],
     },
     Row {
-        len: 1696,
-        changes: &[(1280, b"DELETED"), (1296, &[0x80, 1])],
+        segments: LARGER_HOLE,
         length: 1696,
         used: &[(1280, 320)],
         freed: &[],
@@ -49,32 +77,18 @@ static ROWS: [Row; 5] = [
     },
     // the old ones are freed and held; or they can't be used again, and have a header of their own
     Row {
-        len: 1664,
-        changes: &[
-            (92, &[0, 5]),
-            (1280, b"ZISRAWMETADATA"),
-            (1296, &[0x60, 1]),
-            (1304, &[4, 1]),
-            (1312, &[4]),
-        ],
-        length: 1984,
-        used: &[(1664, 320)],
-        freed: &[(1280, 384)],
-        links: &[(92, 8), (1280, 32), (1664, 32)],
+        segments: OLD,
+        length: 1920,
+        used: &[(1600, 320)],
+        freed: &[(1280, 320)],
+        links: &[(92, 8), (1280, 32), (1600, 32)],
     },
     Row {
-        len: 1665,
-        changes: &[
-            (92, &[0, 5]),
-            (1280, b"ZISRAWMETADATA"),
-            (1296, &[0x61, 1]),
-            (1304, &[4, 1]),
-            (1312, &[4]),
-        ],
-        length: 2016,
-        used: &[(1696, 320)],
+        segments: UNPADDED,
+        length: 1920,
+        used: &[(1600, 320)],
         freed: &[],
-        links: &[(92, 8), (1280, 32), (1696, 32)],
+        links: &[(92, 8), (1280, 32), (1600, 32)],
     },
 ];
 
@@ -94,8 +108,8 @@ fn planned(alloc: Global, index: &Index) -> Result<(EditPlan, Vec<u8>), Fail> {
 #[test]
 fn the_metadata_go_where_they_fit_and_the_old_ones_leave(rt: HostRuntime) -> Result<(), Fail> {
     let alloc = rt.alloc();
-    for row in &ROWS {
-        let index = index_of(alloc, row.len, row.changes)?;
+    for row in ROWS.iter() {
+        let index = index_in(alloc, row.segments)?;
         let (plan, _) = planned(alloc, &index)?;
         let used = pairs_of(alloc, plan.used.as_slice())?;
         let freed = pairs_of(alloc, plan.freed.as_slice())?;
@@ -113,7 +127,7 @@ fn the_metadata_are_one_write_and_the_used_size_has_no_padding(
     rt: HostRuntime,
 ) -> Result<(), Fail> {
     let alloc = rt.alloc();
-    let index = index_of(alloc, 1280, &[])?;
+    let index = index_in(alloc, ONE)?;
     let (plan, bytes) = planned(alloc, &index)?;
     let write = [(1312, Piece { at: 0, len: 288 })];
     assert!(rt; plan.writes.as_slice() == write.as_slice() && bytes.len() == 288);

@@ -1,0 +1,6 @@
+use Rattle.czi_plan.proofs.ItemsBack.{attachment_is}
+use Rattle.czi_plan.proofs.returning.attachment_back.Goals as goal
+
+-- src/returning.rt
+pub returns-clause-item : goal.returns-clause-item
+returns-clause-item c = λ y is kind position. attachment_is c.args.info.now c.args.held.now c.header_back.result y c.requires.ends c.header_back.ensures is kind position

@@ -1,0 +1,125 @@
+-- What an inverse asks of an index and a map, and what its plan does on a state.
+use Rattle.std.specs.Prelude.{◌≡◌, ⊤, ℕ, ◌+◌, ◌≤◌, ◌<◌, List, [], ◌∷◌, length, slice_index_or, IsFalse, IsTrue, Some, Ok, Err, Result}
+use Rattle.std.specs.Option.{IsSome}
+use Rattle.std.specs.List.{AllByRecursion}
+use Rattle.czi_format.specs.Layout.{Layout, Place}
+use Rattle.czi_format.specs.Live.{Live}
+use Rattle.czi_format.specs.Segment.{Segment, attachment_id, header_at, metadata_id, subblock_id}
+use Rattle.czi_format.specs.Space.{Full}
+use Rattle.czi_format.specs.Span.{Span, LiesInOne, end_of, meets}
+use Rattle.czi_image.specs.Change.{live_change_of}
+use Rattle.czi_image.specs.Spans.{live_spans}
+use Rattle.czi_image.specs.declared.index.Index.{Index}
+use Rattle.czi_machine.specs.Edit.{DocumentEffect, after}
+use Rattle.czi_machine.specs.Formers.{Return}
+use Rattle.czi_machine.specs.Kept.{LiesWith}
+use Rattle.czi_machine.specs.LiveChange.{SpansAt, changed_live}
+use Rattle.czi_machine.specs.Places.{can_be_used, laid, undo_asks}
+use Rattle.czi_machine.specs.Planned.{Plans}
+use Rattle.czi_machine.specs.State.{Former, State, item_places, item_spans, items_of, not_among}
+use Rattle.czi_num.specs.Span.{span_of}
+use Rattle.czi_region.specs.declared.block.Region.{Region}
+use Rattle.czi_space.specs.State.{IsHeld, MapState, MeetsNone}
+use Rattle.czi_undo.specs.Stands.{IsSingle}
+use Rattle.czi_undo.specs.Told.{Single, return_of_single}
+use Rattle.czi_undo.specs.declared.held.HeldSegment.{HeldSegment}
+use Rattle.czi_undo.specs.declared.inverse.Inverse.{Inverse}
+use Rattle.czi_undo.specs.declared.inverse.Part.{Part}
+use Rattle.czi_undo.specs.declared.inverse.Part.TheVariants.{DropSub, PutSub, InsertSub, DropAtt, PutAtt, InsertAtt, NoMeta, PutMeta, Same}
+use Rattle.czi_plan.specs.Conditions.{LiesIn}
+use Rattle.czi_plan.specs.Does.{layout_by}
+use Rattle.czi_plan.specs.Pieces.{pieces_of}
+use Rattle.czi_plan.specs.Plan.{left_items}
+use Rattle.czi_plan.specs.declared.plan.EditPlan.{EditPlan}
+use Rattle.czi_plan.specs.declared.plan.PlanFault.{PlanFault}
+use Rattle.czi_plan.specs.declared.plan.PlanFault.TheVariants.{Full as Filled, Memory}
+use Rattle.czi_format.specs.declared.numbers.TheConstants.{CONTENTS_PLACE, MOST_ATTACHMENTS, MOST_SUBBLOCKS}
+
+abbrev pub live_of : Index → List Span
+live_of x = live_spans x.header x.directory x.tiles.items x.attdir x.attachments.items x.metadata
+
+abbrev pub place_of : HeldSegment → Place
+place_of h = record { span = span_of h.span; walked = h.walked }
+
+-- a span that can be used again lies in one DELETED extent and is held; another one meets none
+abbrev pub IsAmong : Place → MapState → Type 0
+IsAmong p m = (IsTrue (can_be_used p) → LiesInOne p.span m.extents × IsHeld p.span m.held) × (IsFalse (can_be_used p) → MeetsNone p.span m.extents)
+
+-- the lengths of its contents
+abbrev pub size_in : HeldSegment → ℕ → ℕ
+size_in h i = slice_index_or h.sizes i 0
+
+-- A held segment of a kind: its header has that id and sound sizes, and gives its extent; and its contents lie in it, past
+-- its first 32 bytes.
+pub record IsSoundHeld (id : List ℕ) (h : HeldSegment) : Type 0 where
+  pub segment : Segment
+  pub head : header_at h.head 0 ≡ Some segment
+  pub named : segment.id ≡ id
+  pub sound : segment.used ≤ segment.allocated
+  pub extent : h.span.len ≡ 32 + segment.allocated
+  pub begins : h.span.at + 32 ≤ h.begin
+  pub contents : h.begin + size_in h 0 + size_in h 1 + size_in h 2 ≤ end_of (span_of h.span)
+
+-- It fits where it also ends at or below the length, meets no live extent, and lies in the map as it says.
+pub record HeldFits (id : List ℕ) (x : Index) (m : MapState) (h : HeldSegment) : Type 0 where
+  pub own : IsSoundHeld id h
+  pub inside : end_of (span_of h.span) ≤ x.length
+  pub apart : AllByRecursion (λ s. IsFalse (meets (span_of h.span) s)) (live_of x)
+  pub among : IsAmong (place_of h) m
+
+-- a segment of a kind, with sound sizes
+abbrev pub IsOfKind : List ℕ → Segment → Type 0
+IsOfKind id s = (s.id ≡ id) × (s.used ≤ s.allocated)
+
+-- the contents of an attachment, and those of metadata, have a place of their own in the segment
+abbrev pub BeginsAsKind : HeldSegment → Type 0
+BeginsAsKind h = h.begin ≡ h.span.at + CONTENTS_PLACE
+
+-- An inverse fits: its place is in range, the list that it gives is within its limit, metadata that go are there, and the
+-- segment that it brings fits.
+abbrev pub PartFits : Index → MapState → Part → Type 0
+PartFits x m (DropSub place) = place < length x.tiles.items
+PartFits x m (PutSub place info held) = (place < length x.tiles.items) × HeldFits subblock_id x m held
+PartFits x m (InsertSub place info held) = (place ≤ length x.tiles.items) × (length x.tiles.items < MOST_SUBBLOCKS) × HeldFits subblock_id x m held
+PartFits x m (DropAtt place) = place < length x.attachments.items
+PartFits x m (PutAtt place info held) = (place < length x.attachments.items) × HeldFits attachment_id x m held × BeginsAsKind held
+PartFits x m (InsertAtt place info held) = (place ≤ length x.attachments.items) × (length x.attachments.items < MOST_ATTACHMENTS) × HeldFits attachment_id x m held × BeginsAsKind held
+PartFits x m NoMeta = IsSome x.metadata
+PartFits x m (PutMeta held) = HeldFits metadata_id x m held × BeginsAsKind held
+PartFits x m Same = ⊤
+
+-- so does that of a single edit
+pub record InverseFits (x : Index) (m : MapState) (i : Inverse) : Type 0 where
+  pub part : Part
+  pub only : i.parts.items ≡ part ∷ []
+  pub fits : PartFits x m part
+
+-- On a state the plan is the undo of its newest former document: an effect that gives this document, whose layout is the
+-- machine's, and whose pieces are what the machine asks for between the two layouts.
+pub record UndoesIn (image : List ℕ) (live : Live) (s : State) (f : Former) (x : Index) (region : Region) (p : EditPlan) : Type 0 where
+  pub goes : laid s (undo_asks s f) ≡ Ok (layout_by p s)
+  pub effect : DocumentEffect
+  pub document : f.document ≡ after effect s.document
+  pub spans : SpansAt (layout_by p s) (changed_live (live_change_of p.change x) live)
+  pub plans : Plans image s.layout (layout_by p s) live effect (live_change_of p.change x) (pieces_of region p)
+  -- the items of the state that aren't live afterwards are those that leave
+  pub leaves : not_among (item_spans (items_of (layout_by p s))) (item_places (items_of s.layout)) ≡ left_items p.change x
+
+-- a state that lies in the index and the map, and that this inverse brings back
+pub record Undone (image : List ℕ) (live : Live) (s : State) (x : Index) (m : MapState) (i : Inverse) (o : Single) (returns : List Return) (f : Former) (formers : List Former) : Type 0 where
+  pub lies : LiesIn image live s x m
+  pub single : IsSingle i o
+  pub back : LiesWith image live s (return_of_single o ∷ returns)
+  pub newest : s.formers ≡ f ∷ formers
+
+-- so it is on every such state
+abbrev pub Undoes : Index → MapState → Inverse → Region → EditPlan → Type 0
+Undoes x m i region p = (image : List ℕ) (live : Live) (s : State) (o : Single) (returns : List Return) (f : Former) (formers : List Former) → Undone image live s x m i o returns f formers → UndoesIn image live s f x region p
+
+-- There is no plan exactly where the machine has no place: memory is never wanting.
+abbrev pub IsFullUndo : PlanFault → Result Layout Full → Type 0
+IsFullUndo (Filled need length) laid = laid ≡ Err (record { need = need; length = length })
+IsFullUndo Memory laid = ⊥
+
+abbrev pub HasNoUndo : Index → MapState → Inverse → PlanFault → Type 0
+HasNoUndo x m i fault = (image : List ℕ) (live : Live) (s : State) (o : Single) (returns : List Return) (f : Former) (formers : List Former) → Undone image live s x m i o returns f formers → IsFullUndo fault (laid s (undo_asks s f))
