@@ -1,9 +1,6 @@
 //! Preparing an edit: what refuses it, or its plan, with all memory for it. The answer is the span that it holds back.
 
-ghost use Rattle.std.specs.Prelude.{◌≡◌, ◌==◌, ◌≤◌, length, not};
-ghost use Rattle.std.specs.List.{prefix_len};
-ghost use Rattle.czi_doc.specs.View.{att_of, dims_of};
-ghost use Rattle.czi_format.specs.Key.{attachment_key};
+ghost use Rattle.czi_doc.specs.View.{dims_of};
 ghost use Rattle.czi_machine.specs.Edit.{add, attach, detach, reattach, remove, replace, set_meta};
 ghost use Rattle.czi_machine.specs.Machine.{after_edit};
 ghost use Rattle.czi_plan.specs.Attaching.{attachment_in, metadata_in};
@@ -18,22 +15,7 @@ use crate::planning::{Contents, Task};
 use czi_doc::{AttInfo, Dims, EntryInfo};
 use czi_format::{MOST_ATTACHMENTS, MOST_SUBBLOCKS};
 use czi_num::Span;
-use czi_plan::{attachment_with, tile_with};
-
-/// How many bytes of a name stand before the first zero byte.
-fn name_len(name: &[u8]) -> usize
-    ensures len { result ≡ prefix_len (λ b. not (b == 0)) name.now }
-    ensures inside { result ≤ length name.now }
-{
-    name.iter().take_while(|byte| **byte != 0).count()
-}
-
-/// The key of an attachment: its name up to the first zero byte.
-fn key_of(info: &AttInfo) -> &[u8]
-    ensures { result.now ≡ attachment_key (att_of info.now) }
-{
-    &info.name[..name_len(&info.name)]
-}
+use czi_plan::{attachment_key, attachment_with, tile_with};
 
 impl Engine {
     /// Prepares a new subblock.
@@ -105,7 +87,7 @@ impl Engine {
         ensures { Prepares (λ s. after_edit s (attach (attachment_in info.now bytes.now))) self.old self.new result }
     {
         check_attachment(bytes)?;
-        let there = attachment_with(&self.state.index, key_of(info));
+        let there = attachment_with(&self.state.index, attachment_key(info));
         check_new(there, self.state.index.attachments.len(), MOST_ATTACHMENTS)?;
         self.prepare(Task::Attach(info, bytes))
     }
@@ -121,7 +103,7 @@ impl Engine {
         ensures { Prepares (λ s. after_edit s (reattach (attachment_in info.now bytes.now))) self.old self.new result }
     {
         check_attachment(bytes)?;
-        let place = check_known(attachment_with(&self.state.index, key_of(info)))?;
+        let place = check_known(attachment_with(&self.state.index, attachment_key(info)))?;
         self.prepare(Task::Reattach(place, info, bytes))
     }
 

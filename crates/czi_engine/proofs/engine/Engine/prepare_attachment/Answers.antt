@@ -22,7 +22,7 @@ returns-in_err-check_new c =
     let s : Attachment = attachment_in c.args.info.now c.args.bytes.now in
     let n = length x.state.index.attachments.items in
     let many : c.len.result ≡ n = omega (arith, c.len.ensures, x.state.index.attachments.ok) in
-    let told = rw ((c.attachment_with-there.ensures ∙ ap (λ k. attachment_with k (map att_item_of c.args.self.now.state.index.attachments.items)) c.key_of.ensures), many) at c.in_err-check_new.ensures.told in
+    let told = rw ((c.attachment_with-there.ensures ∙ ap (λ k. attachment_with k (map att_item_of c.args.self.now.state.index.attachments.items)) c.attachment_key.ensures), many) at c.in_err-check_new.ensures.told in
     let no = new_refuses _ n (2 ^ 12) (in_attachments (into n s)) c.in_err-check_new.field-0.0 told in
     refused x (attach s) c.from_residual-in_err-check_new.result c.in_err-check_new.field-0.0 no.0 no.1 (means_as x.state (attach s) _ (Err no.0) (attachment_means x.state s) (limit_passes (attachment_pieces s.bytes) _ c.in_ok-check_attachment.ensures.within ∙ no.2)) c.from_residual-in_err-check_new.ensures.1
 
@@ -36,4 +36,4 @@ returns c =
     let n = length x.state.index.attachments.items in
     c.prepare.ensures (attach s) (means_as x.state (attach s) _ (Ok (in_attachments (into n s))) (attachment_means x.state s)
     (limit_passes (attachment_pieces s.bytes) _ c.in_ok-check_attachment.ensures.within
-    ∙ new_passes _ n (2 ^ 12) (in_attachments (into n s)) (sym (c.attachment_with-there.ensures ∙ ap (λ k. attachment_with k (map att_item_of c.args.self.now.state.index.attachments.items)) c.key_of.ensures) ∙ c.in_ok-check_new.ensures.unknown) (omega (arith, c.len.ensures, c.in_ok-check_new.ensures.room))))
+    ∙ new_passes _ n (2 ^ 12) (in_attachments (into n s)) (sym (c.attachment_with-there.ensures ∙ ap (λ k. attachment_with k (map att_item_of c.args.self.now.state.index.attachments.items)) c.attachment_key.ensures) ∙ c.in_ok-check_new.ensures.unknown) (omega (arith, c.len.ensures, c.in_ok-check_new.ensures.room))))

@@ -23,13 +23,13 @@ returns-in_err-place c =
     let x = c.args.self.now in
     let s : Attachment = attachment_in c.args.info.now c.args.bytes.now in
     let told = c.in_err-place.ensures.told in
-    let none = sym (c.attachment_with.ensures ∙ ap (λ k. attachment_with k (map att_item_of c.args.self.now.state.index.attachments.items)) c.key_of.ensures) ∙ told.1 in
+    let none = sym (c.attachment_with.ensures ∙ ap (λ k. attachment_with k (map att_item_of c.args.self.now.state.index.attachments.items)) c.attachment_key.ensures) ∙ told.1 in
     refused x (reattach s) c.from_residual-in_err-place.result c.in_err-place.field-0.0 no_key (ap refusal_of told.0) (means_as x.state (reattach s) _ (Err no_key) (reattachment_means x.state s) (limit_passes (attachment_pieces s.bytes) _ c.in_ok-check_attachment.ensures.within ∙ ap (λ t. at_found t (λ i. in_attachments (put i s))) none)) c.from_residual-in_err-place.ensures.1
 
 pub prepare-requires-clause-allowed : goal.prepare-requires-clause-allowed
 prepare-requires-clause-allowed c =
     let x = c.args.self.now in
-    let inside = attachment_inside _ (map att_item_of x.state.index.attachments.items) c.in_ok-place.place (sym (c.attachment_with.ensures ∙ ap (λ k. attachment_with k (map att_item_of c.args.self.now.state.index.attachments.items)) c.key_of.ensures) ∙ c.in_ok-place.ensures.place) in
+    let inside = attachment_inside _ (map att_item_of x.state.index.attachments.items) c.in_ok-place.place (sym (c.attachment_with.ensures ∙ ap (λ k. attachment_with k (map att_item_of c.args.self.now.state.index.attachments.items)) c.attachment_key.ensures) ∙ c.in_ok-place.ensures.place) in
     ((short_pieces (attachment_pieces c.args.bytes.now) c.in_ok-check_attachment.ensures.within).0, omega (arith, inside, length-map x.state.index.attachments.items att_item_of))
 
 pub returns : goal.returns
@@ -37,4 +37,4 @@ returns c =
     let x = c.args.self.now in
     let s : Attachment = attachment_in c.args.info.now c.args.bytes.now in
     c.prepare.ensures (reattach s) (means_as x.state (reattach s) _ (Ok (in_attachments (put c.in_ok-place.place s))) (reattachment_means x.state s)
-    (limit_passes (attachment_pieces s.bytes) _ c.in_ok-check_attachment.ensures.within ∙ ap (λ t. at_found t (λ i. in_attachments (put i s))) (sym (c.attachment_with.ensures ∙ ap (λ k. attachment_with k (map att_item_of c.args.self.now.state.index.attachments.items)) c.key_of.ensures) ∙ c.in_ok-place.ensures.place)))
+    (limit_passes (attachment_pieces s.bytes) _ c.in_ok-check_attachment.ensures.within ∙ ap (λ t. at_found t (λ i. in_attachments (put i s))) (sym (c.attachment_with.ensures ∙ ap (λ k. attachment_with k (map att_item_of c.args.self.now.state.index.attachments.items)) c.attachment_key.ensures) ∙ c.in_ok-place.ensures.place)))
