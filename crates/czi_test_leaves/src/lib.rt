@@ -29,3 +29,5 @@ mod segments;
 mod spans;
 #[cfg(test)]
 mod staged;
+#[cfg(test)]
+mod undo_list;

@@ -1,14 +1,14 @@
 //! Tests of subblocks that are added and replaced: what scripts say and leave, and what crashes and failures in each call leave.
 
 use crate::calls::{SELECTOR, Told, check_crashes, check_failed, check_listed, number_of};
-use crate::devices::{NEVER, check_files, failing_rig};
+use crate::devices::{NEVER, check_files};
 use crate::images::{PLAIN, TAILED};
-use crate::outcomes::{NO_TILES, TILE, outcome, outcome_over};
+use crate::outcomes::{NO_TILES, TILE, outcome, outcome_over, ran, rig_of};
 use crate::scripts::{Misfit, NONE, check_misfit};
 use czi_rig::{Call, File, MemRig, Pick};
 use czi_sample::places::*;
 use czi_sample::{ONE_TILE, ONE_TILE_WITH_ROOM, Part, Segment, image_of};
-use std::alloc::{AllocError, Global};
+use std::alloc::Global;
 use std::process::Abort;
 use std::test::Fail;
 
@@ -17,26 +17,6 @@ const ADD: &[u8] = b"add pixel=0 dims=C0,X0:4,Y0:2 meta=0 data=8 att=0\nABCDEFGH
 
 // It breaks off behind that.
 const BROKEN_OFF: &[u8] = b"add pixel=0 dims=C0,X0:4,Y0:2 meta=0 data=8 att=0\nABCDEFGH\nbad\n";
-
-// A rig over the image of these segments, whose call with this number fails.
-fn rig_of(alloc: Global, segments: &[Segment], failing: u64) -> Result<MemRig, AllocError> {
-    failing_rig(alloc, &image_of(alloc, segments)?, failing)
-}
-
-// A run of a script over the image of these segments: it ended and said so.
-fn ran(
-    rt: &impl Abort,
-    alloc: Global,
-    segments: &[Segment],
-    script: &[u8],
-    (status, said): (u8, &[u8]),
-) -> Result<MemRig, Fail> {
-    let mut rig = rig_of(alloc, segments, NEVER)?;
-    let answer = outcome(alloc, &["F", "edit"], script, &mut rig)?;
-    assert!(rt; answer == status);
-    assert!(rt; rig.said() == said);
-    Ok(rig)
-}
 
 // A script: the image that it edits, the status and what is said, and what `list` says afterwards.
 type Row = (
@@ -47,7 +27,7 @@ type Row = (
     &'static [u8],
 );
 
-static ROWS: [Row; 8] = [
+static ROWS: [Row; 9] = [
     // The subblock goes behind the directory, which has no room, and the new one with room for more behind that.
     (
         PLAIN,
@@ -79,6 +59,14 @@ static ROWS: [Row; 8] = [
         0,
         b"ok 1\nok 2\nlength 2720\nruns 1\nrun 544 160\nheld 1\nheld 704 320\n",
         b"tiles 1\ntile 0 2304 pixel=1 comp=0 dims=C0:1:1,X0:4:4,Y0:2:2\n",
+    ),
+    // The first of three is removed: the others close up, and the directory has room for all of them.
+    (
+        PLAIN,
+        b"add pixel=0 dims=C0,X0:4,Y0:2 meta=0 data=8 att=0\nABCDEFGH\nadd pixel=0 dims=C1,X0:4,Y0:2 meta=0 data=8 att=0\nABCDEFGH\nadd pixel=0 dims=C2,X0:4,Y0:2 meta=0 data=8 att=0\nABCDEFGH\nremove dims=C0,X0:4,Y0:2\nmap\n",
+        0,
+        b"ok 1\nok 2\nok 3\nok 4\nlength 2944\nruns 1\nrun 544 160\nheld 1\nheld 704 320\n",
+        b"tiles 2\ntile 0 2304 pixel=0 comp=0 dims=C1:1:1,X0:4:4,Y0:2:2\ntile 1 2624 pixel=0 comp=0 dims=C2:1:1,X0:4:4,Y0:2:2\n",
     ),
     (
         PLAIN,
@@ -121,15 +109,45 @@ fn subblocks_are_added_and_replaced(rt: HostRuntime) -> Result<(), Fail> {
     Ok(())
 }
 
+// A line, how long its payload is, and what is said of it: the payload is read, and not kept.
+static LONG: [(&[u8], usize, &[u8]); 4] = [
+    (
+        b"add pixel=0 dims=C0,X0:4,Y0:2 meta=16777217 data=0 att=0\n",
+        16_777_217,
+        b"no long 16777217 16777216\ntiles 0\n",
+    ),
+    (
+        b"attach guid=00112233-4455-6677-8899-aabbccddeeff type=TXT name=EventList data=67108865\n",
+        67_108_865,
+        b"no long 67108865 67108864\ntiles 0\n",
+    ),
+    (b"meta xml=0 att=0\n", 0, b"ok 1\ntiles 0\n"),
+    (
+        b"meta xml=16777217 att=0\n",
+        16_777_217,
+        b"no long 16777217 16777216\ntiles 0\n",
+    ),
+];
+
+fn check_long(
+    rt: &impl Abort,
+    alloc: Global,
+    line: &[u8],
+    len: usize,
+    said: &[u8],
+) -> Result<(), Fail> {
+    let mut script = Vec::from_slice(alloc, line)?;
+    script.resize(line.len().saturating_add(len), b'a')?;
+    script.extend_from_slice(b"\nlist\n")?;
+    let _ = ran(rt, alloc, PLAIN, &script, (0, said))?;
+    Ok(())
+}
+
 #[test]
 fn a_payload_past_its_limit_is_read_and_refused(rt: HostRuntime) -> Result<(), Fail> {
-    let alloc = rt.alloc();
-    let line = b"add pixel=0 dims=C0,X0:4,Y0:2 meta=16777217 data=0 att=0\n".as_slice();
-    let mut script = Vec::from_slice(alloc, line)?;
-    script.resize(line.len() + 16_777_217, b'a')?;
-    script.extend_from_slice(b"\nlist\n")?;
-    let said = b"no long 16777217 16777216\ntiles 0\n";
-    let _ = ran(&rt, alloc, PLAIN, &script, (0, said))?;
+    for (line, len, said) in LONG.iter() {
+        check_long(&rt, rt.alloc(), line, *len, said)?;
+    }
     Ok(())
 }
 
@@ -166,8 +184,13 @@ fn whole_run(rt: &impl Abort, alloc: Global) -> Result<MemRig, Fail> {
     ran(rt, alloc, PLAIN, ADD, (0, b"ok 1\n"))
 }
 
-// What a crash in each call of a run leaves: its document before, or the one after.
-fn check_each_crash(rt: &impl Abort, alloc: Global, rig: &MemRig, told: Told) -> Result<(), Fail> {
+/// What a crash in each call of a run leaves: its document before, or the one after.
+pub(crate) fn check_each_crash(
+    rt: &impl Abort,
+    alloc: Global,
+    rig: &MemRig,
+    told: Told,
+) -> Result<(), Fail> {
     let selector = number_of(rig, SELECTOR)?;
     for number in 0..rig.calls() {
         check_crashes(rt, alloc, rig, (number, selector), told)?;

@@ -33,7 +33,7 @@ static PICKS: [Pick; 4] = [
     Pick::Old,
     Pick::New,
     Pick::Fill(0x57, true),
-    Pick::Fill(0x57, false),
+    Pick::Fill(0xFF, false),
 ];
 
 /// A command, and what it says of the document before a script and after it.

@@ -6,6 +6,8 @@
 #[cfg(test)]
 mod adding;
 #[cfg(test)]
+mod attaching;
+#[cfg(test)]
 mod calls;
 #[cfg(test)]
 mod counter;
@@ -17,6 +19,8 @@ mod devices;
 mod engine;
 #[cfg(test)]
 mod images;
+#[cfg(test)]
+mod large;
 #[cfg(test)]
 mod outcomes;
 #[cfg(test)]

@@ -1,7 +1,8 @@
 //! What runs of the program answer.
 
-use crate::devices::{NEVER, failing_input};
+use crate::devices::{NEVER, failing_input, failing_rig};
 use czi_rig::MemRig;
+use czi_sample::{Segment, image_of};
 use czi_top::run;
 use std::alloc::{AllocError, Global};
 use std::process::Abort;
@@ -36,6 +37,30 @@ pub(crate) fn outcome(
     rig: &mut MemRig,
 ) -> Result<u8, AllocError> {
     outcome_over(alloc, words, script, NEVER, rig)
+}
+
+/// A rig over the image of these segments, whose call with this number fails.
+pub(crate) fn rig_of(
+    alloc: Global,
+    segments: &[Segment],
+    failing: u64,
+) -> Result<MemRig, AllocError> {
+    failing_rig(alloc, &image_of(alloc, segments)?, failing)
+}
+
+/// A run of a script over the image of these segments: it ended and said so.
+pub(crate) fn ran(
+    rt: &impl Abort,
+    alloc: Global,
+    segments: &[Segment],
+    script: &[u8],
+    (status, said): (u8, &[u8]),
+) -> Result<MemRig, Fail> {
+    let mut rig = rig_of(alloc, segments, NEVER)?;
+    let answer = outcome(alloc, &["F", "edit"], script, &mut rig)?;
+    assert!(rt; answer == status);
+    assert!(rt; rig.said() == said);
+    Ok(rig)
 }
 
 /// What the command says of these files, and the status that it answers.

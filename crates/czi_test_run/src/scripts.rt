@@ -1,8 +1,8 @@
 //! Tests of scripts: what they say and leave, and what an input or a journal that is wrong makes of them.
 
 use crate::devices::{NEVER, check_files, failing_rig};
-use crate::images::{Part, one_tile};
-use crate::outcomes::{NO_TILES, ONE, TILE, check_said, outcome, outcome_over};
+use crate::images::{ONE_SUBBLOCK, Part, one_tile};
+use crate::outcomes::{NO_TILES, ONE, TILE, check_said, outcome_over, ran};
 use czi_rig::{File, MemRig};
 use czi_sample::changed;
 use czi_sample::places::*;
@@ -70,25 +70,11 @@ static SCRIPTS: [(&[u8], u8, &[u8], usize, &[u8]); 9] = [
     ),
 ];
 
-// A rig on which the script was run: it ended and said so.
-fn ran(
-    rt: &impl Abort,
-    alloc: Global,
-    script: &[u8],
-    status: u8,
-    said: &[u8],
-) -> Result<MemRig, Fail> {
-    let mut rig = one_tile_rig(alloc, NEVER)?;
-    let answer = outcome(alloc, &["F", "edit"], script, &mut rig)?;
-    assert!(rt; answer == status && rig.said() == said);
-    Ok(rig)
-}
-
 #[test]
 fn scripts_are_run(rt: HostRuntime) -> Result<(), Fail> {
     let alloc = rt.alloc();
     for (script, status, said, journal, after) in SCRIPTS.iter() {
-        let rig = ran(&rt, alloc, script, *status, said)?;
+        let rig = ran(&rt, alloc, ONE_SUBBLOCK, script, (*status, said))?;
         check_left(&rt, alloc, &rig, *journal, after)?;
     }
     Ok(())
@@ -182,7 +168,8 @@ pub(crate) fn check_misfit(
 fn a_journal_that_counts_refuses_what_does_not_fit(rt: HostRuntime) -> Result<(), Fail> {
     let alloc = rt.alloc();
     let script = b"remove dims=C0,X0:4,Y0:2\nbad\n";
-    let rig = ran(&rt, alloc, script, 3, b"ok 1\nscript 2 word\n")?;
+    let want = (3, b"ok 1\nscript 2 word\n".as_slice());
+    let rig = ran(&rt, alloc, ONE_SUBBLOCK, script, want)?;
     for misfit in MISFITS.iter() {
         check_misfit(&rt, alloc, &rig, misfit)?;
     }

@@ -56,8 +56,8 @@ fn edited(
     Ok(rig)
 }
 
-// All that `info` says of these files, which begins so.
-fn told(
+/// All that `info` says of these files, which begins so.
+pub(crate) fn told(
     rt: &impl Abort,
     alloc: Global,
     (image, journal): (&[u8], &[u8]),
