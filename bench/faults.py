@@ -3,8 +3,8 @@
 
 usage: faults.py
 
-The script removes a tile of crates/czi_tool/data/image.czi, adds one and replaces another. After each run the file is listed: it has
-to be the document after as many commands as replies were said, or one more. Calls of the program's start (of the loader) are counted
+The script makes each of the seven edits of crates/czi_tool/data/image.czi. What `info` tells after each run has to be that of the
+document after as many commands as replies were said, or one more. Calls of the program's start (of the loader) are counted
 too.
 """
 import collections
@@ -21,6 +21,10 @@ COMMANDS = [
     b"remove dims=X0:16,Y0:16,C0,S0\n",
     b"add pixel=0 dims=X32:16,Y0:16,C0,S1 meta=5 data=256 att=0\n<m/>\n" + bytes(range(256)) + b"\n",
     b"replace pixel=1 dims=X0:32:16,Y0:16:8,C0 meta=0 data=256 att=3\n" + bytes(range(255, -1, -1)) + b"att\n",
+    b"attach guid=00112233-4455-6677-8899-aabbccddeeff type=TXT name=notes data=5\nhello\n",
+    b"reattach guid=00112233-4455-6677-8899-aabbccddeeff type=TXT name=notes data=2\nhi\n",
+    b"meta xml=7 att=1\n<meta/>?\n",
+    b"detach name=notes\n",
 ]
 
 
@@ -30,18 +34,18 @@ def fresh(path):
         os.remove(path + ".jrn")
 
 
-def listed(path):
-    ran = subprocess.run([TOOL, path, "list"], capture_output=True)
+def told(path):
+    ran = subprocess.run([TOOL, path, "info"], capture_output=True)
     return ran.returncode, ran.stdout
 
 
 def documents(path):
-    """What is listed after each number of commands."""
+    """What is told after each number of commands."""
     lists = []
     for count in range(len(COMMANDS) + 1):
         fresh(path)
         subprocess.run([TOOL, path, "edit"], input=b"".join(COMMANDS[:count]), stdout=subprocess.DEVNULL, check=True)
-        lists.append(listed(path))
+        lists.append(told(path))
     return lists
 
 
@@ -71,7 +75,7 @@ def main():
                     status, said = end
                     statuses[status] += 1
                     done = said.count(b"ok ")
-                    if listed(path) not in wanted[done:done + 2]:
+                    if told(path) not in wanted[done:done + 2]:
                         sys.exit(f"{fault} at {call} {number}: {said} was said, and the file is of another document")
                 print(f"{fault} at each {call}: " + (", ".join(f"{n} times status {s}" for s, n in sorted(statuses.items())) or "none"))
 

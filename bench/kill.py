@@ -3,9 +3,9 @@
 
 usage: kill.py [ROUNDS] [TILES]      (100 and 2,000 by default)
 
-Each round makes a file of tiles, begins a script of removals, additions and replacements, with payloads of up to 100,000 bytes,
-and kills the program (SIGKILL) at a random moment. What the next opening lists has to be the document after some number of
-commands, at least as many as replies were said. A kill leaves what was written to the system; that a machine that stops leaves
+Each round makes a file of tiles, begins a script of all seven edits, with payloads of up to 100,000 bytes, and kills the program
+(SIGKILL) at a random moment. The tiles that the next opening lists, the attachments and the length of the XML have to be those of
+the document after some number of commands, at least as many as replies were said. A kill leaves what was written to the system; that a machine that stops leaves
 the same is what the proofs say.
 """
 import os
@@ -37,33 +37,88 @@ def payload_line(word, number, pixel):
     return f"{word} pixel={pixel} dims={dimensions(number)} meta=5 data={len(data)} att=0\n".encode() + b"<m/>\n" + data + b"\n"
 
 
+def attachment_line(word, name):
+    data = random.randbytes(random.choice((0, 5, 1000, 100000)))
+    line = f"{word} guid=00112233-4455-6677-8899-aabbccddeeff type=BIN name={name} data={len(data)}\n".encode() + data + b"\n"
+    return line, f"name={name} data={len(data)}"
+
+
+class Document:
+    """What a script makes of a file of tiles."""
+
+    def __init__(self, tiles):
+        self.tiles, self.names, self.attachments, self.xml = [(number, 0) for number in range(tiles)], [], [], None
+        self.next = tiles
+
+    def told(self):
+        return [told(*tile) for tile in self.tiles], list(self.attachments), self.xml
+
+    def remove(self):
+        number, _ = self.tiles.pop(random.randrange(len(self.tiles)))
+        return f"remove dims={dimensions(number)}\n".encode()
+
+    def add(self):
+        self.next += 1
+        self.tiles.append((self.next, 1))
+        return payload_line("add", self.next, 1)
+
+    def replace(self):
+        place = random.randrange(len(self.tiles))
+        number, _ = self.tiles[place]
+        self.tiles[place] = (number, 2)
+        return payload_line("replace", number, 2)
+
+    def attach(self):
+        self.next += 1
+        line, said = attachment_line("attach", f"n{self.next}")
+        self.names.append(f"n{self.next}")
+        self.attachments.append(said)
+        return line
+
+    def reattach(self):
+        if not self.names:
+            return self.attach()
+        place = random.randrange(len(self.names))
+        line, self.attachments[place] = attachment_line("reattach", self.names[place])
+        return line
+
+    def detach(self):
+        if not self.names:
+            return self.attach()
+        place = random.randrange(len(self.names))
+        del self.attachments[place]
+        return f"detach name={self.names.pop(place)}\n".encode()
+
+    def meta(self):
+        xml = random.randbytes(random.choice((0, 7, 1000, 100000)))
+        self.xml = f"xml={len(xml)} att=1"
+        return f"meta xml={len(xml)} att=1\n".encode() + xml + b"?\n"
+
+
 def commands(tiles, count):
-    """A script of so many commands, and what is listed after each number of them."""
-    document = [(number, 0) for number in range(tiles)]
-    documents, script = [list(document)], b""
-    for turn in range(count):
-        kind = random.choice(("remove", "add", "replace"))
-        place = random.randrange(len(document))
-        if kind == "remove":
-            number, _ = document.pop(place)
-            script += f"remove dims={dimensions(number)}\n".encode()
-        elif kind == "add":
-            document.append((tiles + turn, 1))
-            script += payload_line("add", tiles + turn, 1)
-        else:
-            number, _ = document[place]
-            document[place] = (number, 2)
-            script += payload_line("replace", number, 2)
-        documents.append(list(document))
-    return script, [[told(*tile) for tile in d] for d in documents]
+    """A script of so many commands, and what is told after each number of them."""
+    document, script = Document(tiles), b""
+    documents = [document.told()]
+    for _ in range(count):
+        edit = random.choice((document.remove, document.add, document.replace, document.attach, document.reattach, document.detach, document.meta))
+        script += edit()
+        documents.append(document.told())
+    return script, documents
+
+
+def asked(path, query):
+    ran = subprocess.run([TOOL, path, query], capture_output=True, text=True)
+    if ran.returncode:
+        sys.exit(f"the file isn't opened: {ran.stdout.strip()} (status {ran.returncode})")
+    return ran.stdout.splitlines()
 
 
 def listed(path):
-    """The tiles that the file lists, in order."""
-    ran = subprocess.run([TOOL, path, "list"], capture_output=True, text=True)
-    if ran.returncode:
-        sys.exit(f"the file doesn't list: {ran.stdout.strip()} (status {ran.returncode})")
-    return [line.split(" ", 3)[3] for line in ran.stdout.splitlines()[1:]]
+    """The tiles of the file, in order, its attachments, and how long its XML is."""
+    tiles = [line.split(" ", 3)[3] for line in asked(path, "list")[1:]]
+    info = asked(path, "info")
+    attachments = [line[line.index("name="):] for line in info if line.startswith("attachment ")]
+    return tiles, attachments, None if info[-1] == "metadata none" else info[-1].split(" ", 3)[3]
 
 
 def started(path, script):
@@ -106,7 +161,7 @@ def main():
             if listed(path) not in documents[done:done + 2]:
                 sys.exit(f"round {turn}: {done} replies were said, and the file lists none of the two documents")
             inside += 0 < done < len(documents) - 1
-        print(f"{rounds} kills, {inside} of them inside the script: each file listed as after the replies that were said, or one more")
+        print(f"{rounds} kills, {inside} of them inside the script: each file is as after the replies that were said, or one more")
 
 
 if __name__ == "__main__":
