@@ -4,6 +4,8 @@
 #![tactic(auto)]
 
 #[cfg(test)]
+mod attachments;
+#[cfg(test)]
 mod bringing;
 #[cfg(test)]
 mod documents;
