@@ -47,7 +47,13 @@ fn a_document_is_created_once_and_then_edited(rt: HostRuntime) -> Result<(), Fai
         (2, b"refused notempty 704\n"),
     )?;
     check_files(&rt, &rig, &made, b"");
-    check_run(&rt, alloc, &mut rig, (&["F", "edit"], ADDED), (0, b"ok 1\n"))?;
+    check_run(
+        &rt,
+        alloc,
+        &mut rig,
+        (&["F", "edit"], ADDED),
+        (0, b"ok 1\n"),
+    )?;
     check_run(&rt, alloc, &mut rig, (&["F", "list"], b""), (0, TILE))
 }
 

@@ -133,7 +133,12 @@ static OTHER_WORDS: [&[&str]; 15] = [
     &["F", "create", "guid="],
     &["F", "create", "guid=0011"],
     &["F", "create", "GUID=00112233-4455-6677-8899-aabbccddeeff"],
-    &["F", "create", "guid=00112233-4455-6677-8899-aabbccddeeff", "x=1"],
+    &[
+        "F",
+        "create",
+        "guid=00112233-4455-6677-8899-aabbccddeeff",
+        "x=1",
+    ],
     &["F", "list", "--"],
 ];
 
