@@ -3,6 +3,7 @@ use Rattle.std.specs.Prelude.{ℕ, ◌-◌, ◌≤◌, max, List, [], ◌∷◌,
 use Rattle.std.specs.List.{AllByRecursion}
 use Rattle.czi_links.specs.Record.{Bytes, end_of}
 use Rattle.czi_vault.specs.Recovered.{View, IsFree}
+use Rattle.czi_format.specs.declared.numbers.TheConstants.{HEADER_FRONT}
 
 -- zeros from the end of an image up to a place behind it
 abbrev pub zeros : ℕ → ℕ → List Bytes
@@ -19,7 +20,7 @@ filled end (w ∷ ws) = zeros end w.place ++ (w ∷ filled (max end (end_of w)) 
 
 -- each begins behind the fields of the file header
 abbrev pub LeaveHeader : List Bytes → Type 0
-LeaveHeader ws = AllByRecursion (λ (w : Bytes). 112 ≤ w.place) ws
+LeaveHeader ws = AllByRecursion (λ (w : Bytes). HEADER_FRONT ≤ w.place) ws
 
 -- each goes where nothing is needed
 abbrev pub AreFree : View → List Bytes → Type 0

@@ -11,6 +11,7 @@ use Rattle.czi_plan.specs.declared.plan.EditPlan.{EditPlan}
 use Rattle.czi_commit.specs.Filled.{LeaveHeader, filled}
 use Rattle.czi_plan.specs.Pieces.{AreNear, last_end, writes_of}
 use Rattle.czi_links.specs.declared.numbers.TheConstants.{SLOT_LEN}
+use Rattle.czi_format.specs.declared.numbers.TheConstants.{HEADER_FRONT}
 
 -- what a command writes before its commit, and the record that it commits
 pub record Step : Type 0 where
@@ -24,11 +25,11 @@ made n c image = applied c.commits (with_links (filled n c.writes) image)
 
 -- A step that can be written and committed over an image of this length.
 pub record Fits (n : ℕ) (c : Step) : Type 0 where
-  pub header : 112 ≤ n
+  pub header : HEADER_FRONT ≤ n
   pub behind : LeaveHeader c.writes
   pub near : AreNear n c.writes
   pub small : last_end n c.writes ≤ 2 ^ 62
-  pub least : 112 ≤ c.commits.committed
+  pub least : HEADER_FRONT ≤ c.commits.committed
   pub long : c.commits.committed ≤ last_end n c.writes
   pub ends : EndWithin c.commits.committed c.commits.links
   pub brief : encoded_len c.commits.links ≤ SLOT_LEN

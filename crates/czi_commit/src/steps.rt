@@ -16,6 +16,7 @@ ghost use Rattle.czi_commit.specs.Filled.{AreFree, filled};
 ghost use Rattle.czi_commit.specs.Made.{made, step_of};
 ghost use Rattle.czi_plan.specs.Pieces.{writes_of};
 ghost use Rattle.czi_commit.specs.Ready.{CanCarry, IsReady};
+ghost use Rattle.czi_format.specs.declared.numbers.TheConstants.{UPDATE_PENDING};
 
 use crate::filling::fill;
 use czi_journal::{Journal, create};
@@ -70,8 +71,8 @@ pub fn carry_out<R: Rig>(
 
     // At every moment the files stand for what they stood for, or for the new image; and read alone the image waits for the
     // journal, or is the old one, or the new one once the files stand for that.
-    ensures moments { ForSome (devices (R.state rig.old)) (λ all. (view : View) → StandsNow view all → HasBytes view all.image.seen → slice_index all.image.seen 100 ≡ 0
-        → (Covers (ranges plan.now.links.links) 100 → ⊥) → AreFree view (filled file.now.length (writes_of region.now plan.now))
+    ensures moments { ForSome (devices (R.state rig.old)) (λ all. (view : View) → StandsNow view all → HasBytes view all.image.seen → slice_index all.image.seen UPDATE_PENDING ≡ 0
+        → (Covers (ranges plan.now.links.links) UPDATE_PENDING → ⊥) → AreFree view (filled file.now.length (writes_of region.now plan.now))
         → Throughout R.Rig rig.old rig.new (λ image j said. KeepsOr view (made file.now.length (step_of file.now region.now plan.now) all.image.seen) image j × (said ≡ all.said))) }
     // From then on for the new image, which is all on the disk.
     ensures committed { OnOk result (ForSome (devices (R.state rig.old)) (λ all. ForSome (devices (R.state rig.new)) (λ now.

@@ -5,6 +5,7 @@ use Rattle.czi_rig.specs.Disk.{at_rest}
 use Rattle.czi_rig.specs.State.{State, known, seen_of}
 use Rattle.czi_creation.specs.declared.creating.CreationFault.{CreationFault}
 use Rattle.czi_creation.specs.declared.creating.CreationFault.TheVariants.{NotEmpty, Image, Journal}
+use Rattle.czi_format.specs.declared.numbers.TheConstants.{HEADER_FRONT}
 
 -- both files are on the disk as they were read
 pub record AreSynced (old new : State) : Type 0 where
@@ -26,4 +27,4 @@ IsDevice Journal = Unit {0}
 
 -- No file header stands at its front: it is shorter than one, or its first byte isn't a Z.
 abbrev pub HasNoFront : List ℕ → Type 0
-HasNoFront image = (length image < 112) ⊎ (slice_index image 0 ≡ 0x5A → ⊥)
+HasNoFront image = (length image < HEADER_FRONT) ⊎ (slice_index image 0 ≡ 0x5A → ⊥)

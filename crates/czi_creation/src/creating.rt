@@ -16,6 +16,7 @@ ghost use Rattle.czi_creation.specs.Devices.{creation_device};
 ghost use Rattle.czi_creation.specs.Steps.{AreSynced, HasNoFront, IsDevice, TellsLength};
 
 use crate::image::empty_image;
+use czi_format::EMPTY_LEN;
 use czi_journal::{Journal, seal, selected_slot};
 use czi_rig::{Failed, File, Rig, write_synced};
 
@@ -85,7 +86,7 @@ fn seal_old<R: Rig>(rig: &mut R) -> Result<(), Failed>
 
 /// Writes an image of which the first byte makes it a CZI file: that byte as 0, then all others, then that byte. Each is synced before the next
 /// is written.
-fn write_image<R: Rig>(rig: &mut R, bytes: &[u8; 704]) -> Result<(), Failed>
+fn write_image<R: Rig>(rig: &mut R, bytes: &[u8; EMPTY_LEN]) -> Result<(), Failed>
     requires empty { ForSome (known (R.state rig.old) File.Image) (λ disk. disk ≡ at_rest []) }
     requires front { slice_index bytes.now 0 ≡ 0x5A }
 

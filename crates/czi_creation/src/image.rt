@@ -3,14 +3,9 @@
 ghost use Rattle.std.specs.Prelude.{◌≡◌};
 ghost use Rattle.czi_format.specs.Empty.{empty_identity, empty_image};
 
+use czi_format::{DIRECTORY_FRONT, EMPTY_LEN, FILE_HEADER_LEN};
 use czi_num::{write_bytes, write_i32};
 use czi_seg::{FileHeader, SegHeader, SegId, write_file_header, write_header};
-
-/// Where the directory stands: right behind the file header.
-const DIRECTORY_AT: usize = 544;
-
-/// Bytes of the data of a directory without entries.
-const DIRECTORY_LEN: u64 = 128;
 
 /// The identity of a file of its own: version 1.0, the GUID as PrimaryFileGuid and as FileGuid, and FilePart 0.
 fn empty_identity(guid: &[u8; 16]) -> [u8; 52]
@@ -23,14 +18,15 @@ fn empty_identity(guid: &[u8; 16]) -> [u8; 52]
     identity
 }
 
-/// The 704 bytes of the empty document with a GUID, in its stored order: a file header, and a directory without entries.
-pub fn empty_image(guid: &[u8; 16]) -> [u8; 704]
+/// The 704 bytes of the empty document with a GUID, in its stored order: a file header, and right behind it a directory
+/// without entries.
+pub fn empty_image(guid: &[u8; 16]) -> [u8; EMPTY_LEN]
     ensures { result ≡ empty_image guid.now }
 {
-    let mut bytes = [0u8; 704];
+    let mut bytes = [0u8; EMPTY_LEN];
     let header = FileHeader {
         identity: empty_identity(guid),
-        directory: DIRECTORY_AT as i64,
+        directory: FILE_HEADER_LEN as i64,
         metadata: 0,
         pending: 0,
         attachments: 0,
@@ -39,9 +35,9 @@ pub fn empty_image(guid: &[u8; 16]) -> [u8; 704]
     write_bytes(&mut bytes, 0, &write_file_header(&header));
     let directory = SegHeader {
         id: SegId::Directory,
-        allocated: DIRECTORY_LEN,
-        used: DIRECTORY_LEN,
+        allocated: DIRECTORY_FRONT as u64,
+        used: DIRECTORY_FRONT as u64,
     };
-    write_bytes(&mut bytes, DIRECTORY_AT, &write_header(&directory));
+    write_bytes(&mut bytes, FILE_HEADER_LEN, &write_header(&directory));
     bytes
 }

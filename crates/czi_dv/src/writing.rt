@@ -7,6 +7,7 @@ ghost use Rattle.czi_format.specs.Entry.{EntryBytes, IsDim, IsEntryInfo, dim_byt
 ghost use Rattle.czi_doc.specs.View.{dim_of, dims_of, info_of};
 
 use czi_doc::{Dim, EntryInfo};
+use czi_format::DIRECTORY_FRONT;
 use czi_num::{write_bytes, write_i32, write_i64, write_u32};
 
 /// The length of an entry in bytes.
@@ -71,12 +72,12 @@ fn dim_record(dim: &Dim) -> [u8; 20]
 
 /// The head of a directory's data: EntryCount, and 124 reserved bytes of 0.
 #[tactic(auto, unfolding(czi_format::specs::Contents::entry_count))]
-pub fn write_directory_head(count: u32) -> [u8; 128]
+pub fn write_directory_head(count: u32) -> [u8; DIRECTORY_FRONT]
     requires { count ≤ 2 ^ 31 - 1 }
     ensures written { result ≡ directory_head count }
     ensures reads_back { (rest : List ℕ) → entry_count (result ++ rest) ≡ Some count }
 {
-    let mut head = [0u8; 128];
+    let mut head = [0u8; DIRECTORY_FRONT];
     write_u32(&mut head, 0, count);
     head
 }

@@ -21,9 +21,9 @@ ghost use Rattle.czi_format.specs.Empty.{empty_document, empty_image, empty_layo
 
 pub use numbers::{
     A1_LEN, ATTDIR_ENTRIES, ATTDIR_FRONT, ATTDIR_POSITION, CONTENTS, CONTENTS_PLACE, DATA_LIMIT,
-    DIRECTORY_ENTRIES, DIRECTORY_FRONT, DIRECTORY_POSITION, FILE_GUID, FILE_PART, HEADER_FRONT,
-    LEAST_HEADER_DATA, LONGEST_ENTRY, METADATA_POSITION, MOST_ATTACHMENTS, MOST_SUBBLOCKS,
-    TEXT_LIMIT, UPDATE_PENDING,
+    DIRECTORY_ENTRIES, DIRECTORY_FRONT, DIRECTORY_POSITION, EMPTY_LEN, FILE_GUID, FILE_HEADER_LEN,
+    FILE_PART, HEADER_FRONT, LEAST_HEADER_DATA, LONGEST_ENTRY, METADATA_POSITION, MOST_ATTACHMENTS,
+    MOST_SUBBLOCKS, TEXT_LIMIT, UPDATE_PENDING,
 };
 pub use regions::REGION_LIMIT;
 
@@ -80,7 +80,7 @@ pub fn written_is_read()
 /// The 704 bytes of an empty document have its GUID as FileGuid and show it, with no update pending, and are steady: the file
 /// header, the directory, and nothing else.
 pub fn empty_is_shown()
-    ensures long { (guid : List ℕ) → length guid ≡ 16 → length (empty_image guid) ≡ 704 }
+    ensures long { (guid : List ℕ) → length guid ≡ 16 → length (empty_image guid) ≡ EMPTY_LEN }
     ensures guid { (guid : List ℕ) → length guid ≡ 16 → bytes_at (empty_image guid) 64 16 ≡ guid }
     ensures shows { (guid : List ℕ) → length guid ≡ 16 → Shows (empty_image guid) (empty_document guid) × (update_pending (empty_image guid) ≡ pos 0) }
     ensures layout { (guid : List ℕ) → length guid ≡ 16 → HasLayout (empty_image guid) empty_layout }

@@ -21,6 +21,12 @@ pub const ATTDIR_POSITION: usize = 104;
 /// How long the front of the file header is that has all of its fields.
 pub const HEADER_FRONT: usize = 112;
 
+/// How long the segment of a new file header is: 32 bytes of its own header, and 512 of data.
+pub const FILE_HEADER_LEN: usize = 544;
+
+/// How long the image of an empty document is: a file header, and a directory without entries.
+pub const EMPTY_LEN: usize = 704;
+
 /// The least data of the file header's segment.
 pub const LEAST_HEADER_DATA: usize = 80;
 

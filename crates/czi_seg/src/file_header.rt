@@ -10,8 +10,8 @@ ghost use Rattle.czi_seg.specs.HeaderView.{ReadsHeader, TellsHeaderRule, SaysOfH
 use crate::header::{SegHeader, read_header, write_header};
 use crate::id::SegId;
 use czi_format::{
-    ATTDIR_POSITION, DIRECTORY_POSITION, FILE_PART, HEADER_FRONT, LEAST_HEADER_DATA,
-    METADATA_POSITION, UPDATE_PENDING,
+    ATTDIR_POSITION, DIRECTORY_POSITION, FILE_HEADER_LEN, FILE_PART, HEADER_FRONT,
+    LEAST_HEADER_DATA, METADATA_POSITION, UPDATE_PENDING,
 };
 use czi_num::{read_bytes, read_i32, read_i64, write_bytes, write_i32, write_i64};
 
@@ -112,14 +112,14 @@ fn has_header_sizes(header: &SegHeader) -> bool
 }
 
 /// The 544 bytes of a file header with 512 bytes of data, all of them used.
-pub fn write_file_header(h: &FileHeader) -> [u8; 544]
+pub fn write_file_header(h: &FileHeader) -> [u8; FILE_HEADER_LEN]
     requires allocated { h.now.allocated ≡ 512 }
     requires first { i32_at h.now.identity 48 ≡ pos 0 }
     ensures written { result ≡ file_header_bytes (head_of h.now) }
     ensures reads_back { (rest : List ℕ) → header_rules (result ++ rest) ≡ Ok (header_with (head_of h.now)) }
     ensures head_back { (rest : List ℕ) → front_head (result ++ rest) ≡ head_of h.now }
 {
-    let mut bytes = [0u8; 544];
+    let mut bytes = [0u8; FILE_HEADER_LEN];
     let segment = SegHeader {
         id: SegId::File,
         allocated: 512,

@@ -5,7 +5,7 @@ use Rattle.czi_rig.specs.Moments.{Devices, LeavesNow}
 use Rattle.czi_links.specs.Record.{Bytes, Record}
 use Rattle.czi_links.specs.Reading.{Reading, Void, Holds, OfVersion, BadAt}
 use Rattle.czi_journal.specs.Journals.{slot_of}
-use Rattle.czi_format.specs.declared.numbers.TheConstants.{UPDATE_PENDING, FILE_GUID}
+use Rattle.czi_format.specs.declared.numbers.TheConstants.{FILE_GUID, HEADER_FRONT, UPDATE_PENDING}
 
 -- the links written over an image
 abbrev pub with_links : List Bytes → List ℕ → List ℕ
@@ -32,11 +32,11 @@ StandsFor (BadAt place) image bytes = ⊥
 abbrev pub Recovered : List ℕ → List ℕ → List ℕ → Type 0
 Recovered image journal bytes = StandsFor (slot_of journal) image bytes
 
--- bytes, and ranges (place, length) of them that don't matter, each at place 112 or later
+-- bytes, and ranges (place, length) of them that don't matter, each behind the front of the file header
 pub record View : Type 0 where
   pub bytes : List ℕ
   pub holes : List (ℕ × ℕ)
-  pub high : (k : ℕ) → Covers holes k → 112 ≤ k
+  pub high : (k : ℕ) → Covers holes k → HEADER_FRONT ≤ k
 
 -- image and journal stand for bytes that are these outside the holes
 pub record Stands (view : View) (image journal : List ℕ) : Type 0 where

@@ -12,6 +12,7 @@ ghost use Rattle.czi_vault.specs.Recovered.{applied, View, Recovered, StandsNow,
 ghost use Rattle.czi_vault.specs.Devices.{vault_device};
 ghost use Rattle.czi_vault.specs.Puts.{ranges};
 ghost use Rattle.czi_vault.specs.Alone.{AloneNow, HasBytesBut100, KeepsOr};
+ghost use Rattle.czi_format.specs.declared.numbers.TheConstants.{UPDATE_PENDING};
 
 use crate::recover;
 use czi_format::FILE_GUID;
@@ -76,7 +77,7 @@ pub fn commit<R: Rig>(
     ensures moments { ForSome (devices (R.state rig.old)) (λ all. (view : View) → StandsNow view all
         → Throughout R.Rig rig.old rig.new (λ image j said. StandsOr view (applied (record_of head.now links.now.links) all.image.seen) image j × (said ≡ all.said))) }
     // Each image read alone is pending or has the old bytes; or it is the new one, and then the files stand for it.
-    ensures alone { ForSome (devices (R.state rig.old)) (λ all. (view : View) → StandsNow view all → AloneNow view all → HasBytesBut100 view all.image.seen → (Covers (ranges links.now.links) 100 → ⊥)
+    ensures alone { ForSome (devices (R.state rig.old)) (λ all. (view : View) → StandsNow view all → AloneNow view all → HasBytesBut100 view all.image.seen → (Covers (ranges links.now.links) UPDATE_PENDING → ⊥)
         → Throughout R.Rig rig.old rig.new (λ image j said. KeepsOr view (applied (record_of head.now links.now.links) all.image.seen) image j × (said ≡ all.said))) }
     // From then on for the new image, which is all on the disk.
     ensures committed { OnOk result (ForSome (devices (R.state rig.old)) (λ all. ForSome (devices (R.state rig.new)) (λ now.

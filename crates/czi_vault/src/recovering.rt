@@ -79,7 +79,7 @@ pub fn recover<R: Rig>(rig: &mut R, links: &Links, head: &SlotHead) -> Result<()
         → ((journal : List ℕ) → Left all.journal.durable journal → slot_of journal ≡ Holds (record_of head.now links.now.links))
         → Throughout R.Rig rig.old rig.new (λ image journal said. Stands view image journal × (said ≡ all.said))) }
     // Where the image was synced and no link covers place 100, each image is pending, or as it was but for byte 100, or done.
-    ensures alone { ForSome (devices (R.state rig.old)) (λ all. IsAtRest all.image → (Covers (ranges links.now.links) 100 → ⊥)
+    ensures alone { ForSome (devices (R.state rig.old)) (λ all. IsAtRest all.image → (Covers (ranges links.now.links) UPDATE_PENDING → ⊥)
         → Throughout R.Rig rig.old rig.new (λ image journal said. Waits (record_of head.now links.now.links) all.image.seen image)) }
     ensures ok { OnOk result (known (R.state rig.new) File.Image ≡ option_map (λ disk. at_rest (applied (record_of head.now links.now.links) disk.seen)) (known (R.state rig.old) File.Image)) }
     ensures other { LeavesOther File.Image (R.state rig.old) (R.state rig.new) }
