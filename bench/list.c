@@ -1,23 +1,9 @@
 /* What `czi_tool FILE list` says, by a plain C program that makes the same reads: the yardstick of list.sh. */
+#include "reading.h"
 #include <fcntl.h>
-#include <stdint.h>
 #include <stdio.h>
 #include <stdlib.h>
-#include <string.h>
 #include <sys/stat.h>
-#include <unistd.h>
-
-static int32_t int32_at(const unsigned char *bytes) { int32_t value; memcpy(&value, bytes, 4); return value; }
-static int64_t int64_at(const unsigned char *bytes) { int64_t value; memcpy(&value, bytes, 8); return value; }
-
-static int read_at(int file, int64_t at, unsigned char *into, int64_t count) {
-    while (count > 0) {
-        ssize_t got = pread(file, into, count, at);
-        if (got <= 0) return 0;
-        into += got, at += got, count -= got;
-    }
-    return 1;
-}
 
 /* A sound subblock whose contents end within AllocatedSize: its header and the front of its data are read together. */
 static int is_subblock(int file, int64_t at, int64_t size) {

@@ -1,3 +1,4 @@
+pub mod Sweeping
 pub mod Overlays
 pub mod Patched
 pub mod Named

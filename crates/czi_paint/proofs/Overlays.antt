@@ -1,11 +1,13 @@
 -- Patches laid over a row, one after another.
-use Rattle.std.proofs.Common.{◌≡◌, ℕ, zero, suc, ◌<◌, ◌≤◌, ◌+◌, ◌*◌, ◌-◌, true, ◌&&◌, nat_le, nat_lt, List, [], ◌∷◌, ◌++◌, length, take, drop, get_or, ◌⊎◌, replicate, Option, None, Some, refl, ap, sym, subst, ◌∙◌, arith, inl, inr, append_assoc, length-drop}
-use Rattle.std.proofs.lemmas.List.Elements.{All-take}
-use Rattle.std.proofs.lemmas.List.{take_more, length-take-le, drop-drop, length-replicate, replicate-append-replicate}
+use Rattle.std.proofs.Common.{◌≡◌, ℕ, zero, suc, ◌<◌, ◌≤◌, ◌+◌, ◌*◌, ◌-◌, true, ◌&&◌, nat_le, nat_lt, List, [], ◌∷◌, ◌++◌, length, take, drop, get_or, ◌⊎◌, replicate, Option, None, Some, refl, ap, sym, subst, ◌∙◌, arith, inl, inr, append_assoc, length-drop, length-take-le}
+use Rattle.std.proofs.lemmas.Bool.{cases_lt}
+use Rattle.std.proofs.lemmas.List.Elements.{All-take, recursion_from_All}
+use Rattle.std.proofs.Math.Seq.{take-add}
+use Rattle.std.proofs.lemmas.List.{take_more, drop-drop, get_or_default, get_or-drop, get_or-map, get_or-take, length-replicate, replicate-append-replicate}
 use Rattle.std.proofs.lemmas.Bool.Decides.{nat_tests}
 use Rattle.std.proofs.Math.Nat.{mul-le-mul_right}
 use Rattle.std.specs.Option.{unwrap_or}
-use Rattle.std.specs.List.{All}
+use Rattle.std.specs.List.{All, AllByRecursion, Contains}
 use borrow.Rule.Slice.PartMut.{put_mid}
 use Rattle.czi_format.specs.Bytes.{bytes_at, put_at}
 use Rattle.czi_format.specs.Partial.{◌>>=◌}
@@ -16,6 +18,7 @@ use Rattle.czi_tiles.specs.Window.{shown_in}
 use Rattle.czi_tiles.proofs.Windows.{given_false, inside}
 use Rattle.czi_paint.specs.declared.patch.Patch.{Patch}
 use Rattle.czi_tiles.specs.Covered.{seen_through}
+use Rattle.czi_paint.specs.Meeting.{first_row, end_row, Meets, AreActive}
 use Rattle.czi_paint.specs.Patches.{place_of, patch_pixel, patched_row, EndsBelow, FitsRow, laid_over, patch_span}
 use Rattle.czi_format.proofs.Pixels.{pixels, laid, run, same_pixels}
 
@@ -157,3 +160,57 @@ step n w image out new patches k j p low is fit ends was now =
     now ∙ (ap (λ bytes. laid_over (patch_span n image p j) (p.columns.first * n) bytes) was
     ∙ (pushed_by n w image (take k patches) p j (seen_through p.rows j) refl fits below (All-take (EndsBelow (length image) n) k patches ends)
     ∙ ap (λ (ps : List Patch). patched_row n w image ps j) more))
+
+-- ---- patches that don't have the row
+
+last_append : {A X : Type 0} (f : A → Option X) (xs ys : List A) (x : X) → last_given f (xs ++ ys) x ≡ last_given f ys (last_given f xs x)
+last_append f [] ys x = refl
+last_append f (y ∷ xs) ys x = last_append f xs ys (unwrap_or (f y) x)
+
+last_none : {A X : Type 0} (f : A → Option X) (xs : List A) (x : X) → AllByRecursion (λ a. f a ≡ None) xs → last_given f xs x ≡ x
+last_none f [] x none = refl
+last_none f (y ∷ xs) x none = ap (λ (o : Option _). last_given f xs (unwrap_or o x)) none.0 ∙ last_none f xs x none.1
+
+-- a patch shows nothing of a row that it doesn't have
+nothing_there : (n : ℕ) (image : List ℕ) (patches : List Patch) (k i j : ℕ) (p : Patch) → k < length patches → p ≡ get_or patches k p → (Meets patches k j → ⊥) → patch_pixel n image p j i ≡ None
+nothing_there n image patches k i j p low is apart =
+    let first : first_row patches k ≡ p.rows.first = get_or-map (λ (p : Patch). p.rows.first) patches k p 0 low ∙ ap (λ (p : Patch). p.rows.first) (sym is) in
+    let end : end_row patches k ≡ p.rows.first + p.rows.count = get_or-map (λ (p : Patch). p.rows.first + p.rows.count) patches k p 0 low ∙ ap (λ (p : Patch). p.rows.first + p.rows.count) (sym is) in
+    let unseen : seen_through p.rows j ≡ None = elim (cases_lt j p.rows.first) [
+      | inl before ↦ outside p.rows.first p.rows.count p.rows.from j (inl before)
+      | inr from ↦ elim (cases_lt j (p.rows.first + p.rows.count)) [
+        | inl within ↦ absurd (apart (omega (arith, first, from), omega (arith, end, within)))
+        | inr past ↦ outside p.rows.first p.rows.count p.rows.from j (inr past)
+      ]
+    ] in
+    ap (λ (o : Option ℕ). o >>= λ v. seen_through p.columns i >>= λ u. Some (bytes_at image (place_of n p u v) n)) unseen
+
+-- between two places of which none between has the row
+pub between : (n w : ℕ) (image : List ℕ) (patches : List Patch) (a b j : ℕ) → a ≤ b → b ≤ length patches → ((k : ℕ) → a ≤ k → k < b → Meets patches k j → ⊥)
+    → patched_row n w image (take a patches) j ≡ patched_row n w image (take b patches) j
+between n w image patches a b j le inside apart =
+    let e : a + (b - a) ≡ b = omega arith in
+    let more : take b patches ≡ take a patches ++ take (b - a) (drop a patches) = ap (λ k. take k patches) (sym e) ∙ take-add a (b - a) patches in
+    let none : (i : ℕ) → AllByRecursion (λ (p : Patch). patch_pixel n image p j i ≡ None) (take (b - a) (drop a patches)) = λ i.
+    recursion_from_All (λ (p : Patch). patch_pixel n image p j i ≡ None) (take (b - a) (drop a patches)) (λ k d low.
+    let short : k < b - a = omega (arith, low, length-take-le (b - a) (drop a patches) (omega (arith, length-drop a patches))) in
+    let same : get_or (take (b - a) (drop a patches)) k d ≡ get_or patches (a + k) d = get_or-take (b - a) (drop a patches) k d short ∙ get_or-drop a patches k d in
+    let here : get_or patches (a + k) d ≡ get_or patches (a + k) (get_or patches (a + k) d) = get_or_default patches (a + k) d (get_or patches (a + k) d) (omega arith) in
+    subst (λ (p : Patch). patch_pixel n image p j i ≡ None) (sym same)
+    (nothing_there n image patches (a + k) i j (get_or patches (a + k) d) (omega arith) here (apart (a + k) (omega arith) (omega arith)))) in
+    same_pixels (under n image (take a patches) j) (under n image (take b patches) j) 0 w (λ i low high.
+    sym (ap (λ (ps : List Patch). last_given (λ p. patch_pixel n image p j i) ps (replicate n 0)) more
+    ∙ (last_append (λ p. patch_pixel n image p j i) (take a patches) (take (b - a) (drop a patches)) (replicate n 0)
+    ∙ last_none (λ p. patch_pixel n image p j i) (take (b - a) (drop a patches)) (under n image (take a patches) j i) (none i))))
+
+-- no patch between the places that were passed and the one that comes has the row
+pub none_between : (patches : List Patch) (active : List ℕ) (n i m j : ℕ) → AreActive patches j active → m ≤ length patches
+    → ((k : ℕ) → k < i → get_or active k 0 < n) → ((k : ℕ) → i ≤ k → k < length active → m ≤ get_or active k 0)
+    → (k : ℕ) → n ≤ k → k < m → Meets patches k j → ⊥
+none_between patches active n i m j are inside passed ahead k low high meets =
+    let found : Contains active k = are.all k (omega arith) meets in
+    let at : get_or active found.0 0 ≡ k = get_or_default active found.0 0 k found.1 ∙ found.2 in
+    elim (cases_lt found.0 i) [
+      | inl before ↦ omega (arith, passed found.0 before, at)
+      | inr behind ↦ omega (arith, ahead found.0 behind found.1, at)
+    ]

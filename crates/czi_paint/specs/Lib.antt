@@ -1,4 +1,6 @@
 pub mod Patches
 pub mod Refusing
 pub mod Patched
+pub mod Meeting
+pub mod Sweep
 pub mod Painted

@@ -3,22 +3,28 @@
 ghost use Rattle.std.specs.Prelude.{◌≡◌, ◌≤◌, ◌^◌};
 ghost use Rattle.std.specs.List.{All};
 ghost use Rattle.czi_paint.specs.Patches.{EndsBelow, FitsRow};
+ghost use Rattle.czi_paint.specs.Sweep.{HasEntered};
 
 use crate::fault::PaintError;
 use crate::length::too_long;
 use crate::patch::Patch;
 use crate::patches::patches_of;
 use crate::rows::paint_row;
+use crate::sweep::Sweep;
 use czi_doc::Query;
 use czi_image::Tile;
 use czi_rig::{Failed, File, Rig};
-use czi_tiles::TileGrid;
+use czi_tiles::{TileGrid, select};
 use std::alloc::Global;
 
-/// Paints a region of an image, row by row from the top. Each chosen tile is read once in a row, into its place there.
+/// Paints a region of an image, row by row from the top. Each chosen tile that has pixels in a row is read once for it, into
+/// its place there; a row looks at no others.
 #[derive(Drop)]
 pub struct Painter {
+    /// What the chosen tiles show, in painting order.
     patches: Vec<Patch>,
+    /// Which of them have the row that is next.
+    sweep: Sweep,
     size: u64,
     w: u32,
     h: u32,
@@ -26,6 +32,7 @@ pub struct Painter {
     pub ghost some: { 1 ≤ size },
     pub ghost fit: { All (FitsRow w) patches.items },
     pub ghost small: { All (EndsBelow (2 ^ 62) size) patches.items },
+    pub ghost entered: { HasEntered patches.items next sweep },
 }
 
 impl Painter {
@@ -49,8 +56,11 @@ impl Painter {
             (λ painter. (tiles_refusal (query_of query.now) tiles.now ≡ None) × Paints (query_of query.now) tiles.now 0 painter)
             (λ error. (error ≡ PaintError.Memory) ⊎ Tells (tiles_refusal (query_of query.now) tiles.now) error) }
     {
-        let grid = TileGrid::build(alloc, tiles)?;
-        Painter::with_grid(alloc, tiles, &grid, query)
+        if let Some(error) = too_long(query) {
+            return Err(error);
+        }
+        let places = select(alloc, tiles, query)?;
+        Painter::of_places(alloc, tiles, query, &places)
     }
 
     /// The same through a grid of the tiles.
@@ -86,8 +96,10 @@ impl Painter {
             (λ error. (error ≡ PaintError.Memory) ⊎ Tells (chosen_cause (query_of query.now) tiles.now) error) }
     {
         let patches = patches_of(alloc, tiles, query, places)?;
+        let sweep = Sweep::new(alloc, &patches)?;
         Ok(Painter {
             patches,
+            sweep,
             size: query.pixel.bytes(),
             w: query.w,
             h: query.h,
@@ -108,6 +120,7 @@ impl Painter {
     {
         paint_row(
             &self.patches,
+            self.sweep.active(),
             self.size,
             self.w as u64,
             self.next as u64,
@@ -115,6 +128,7 @@ impl Painter {
             out,
         )?;
         self.next += 1;
+        self.sweep.enter(&self.patches, self.next as u64);
         Ok(())
     }
 }

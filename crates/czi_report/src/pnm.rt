@@ -61,20 +61,22 @@ pub fn pnm_row(pixel: &Pixel, row: &mut [u8])
     requires { length row.old % (type_of pixel.now).size ≡ 0 }
     ensures { row.new ≡ pnm_pixels (type_of pixel.now) row.old }
 {
-    let size = pixel.bytes() as usize;
-    if size > 1 {
-        turn_round(size, row);
+    match pixel {
+        Pixel::Gray8 => {}
+        Pixel::Gray16 => turn_round::<2>(row),
+        Pixel::Bgr24 => turn_round::<3>(row),
+        Pixel::Bgr48 => turn_round::<6>(row),
     }
 }
 
-/// Turns the bytes of each pixel round.
-fn turn_round(size: usize, row: &mut [u8])
-    requires some { 1 ≤ size }
-    requires whole { length row.old % size ≡ 0 }
-    ensures { row.new ≡ turned_pixels size row.old }
+/// Turns the bytes of each pixel of so many bytes round. A size that the compiler knows makes this several times as fast.
+fn turn_round<const SIZE: usize>(row: &mut [u8])
+    requires some { 1 ≤ SIZE }
+    requires whole { length row.old % SIZE ≡ 0 }
+    ensures { row.new ≡ turned_pixels SIZE row.old }
 {
-    for i in 0..row.len() / size {
-        let at = i * size;
-        row[at..at + size].reverse();
+    for i in 0..row.len() / SIZE {
+        let at = i * SIZE;
+        row[at..at + SIZE].reverse();
     }
 }

@@ -31,6 +31,15 @@ pub(crate) const MOSAIC: [Segment; 3] = [
     Segment::Tile(b"X1:2,Y0:1,M3", b"CD"),
 ];
 
+/// Tiles that begin and end in different rows, in another order than they are painted in.
+pub(crate) const STAIRS: [Segment; 5] = [
+    Segment::Directory(348),
+    Segment::Tile(b"X0:2,Y0:4,M2", b"abcdefgh"),
+    Segment::Tile(b"X1:4,Y2:1,M1", b"PQRS"),
+    Segment::Tile(b"X0:1,Y3:3", b"xyz"),
+    Segment::Tile(b"X2:2,Y1:3,M3", b"ABCDEF"),
+];
+
 fn plane(alloc: Global, text: &[u8]) -> Result<Plane, Fail> {
     if text.is_empty() {
         return Ok(Plane::new(Vec::new(alloc)).ok_or("no plane")?);

@@ -5,8 +5,10 @@ ghost use Rattle.std.specs.Option.{ForSome};
 ghost use Rattle.czi_rig.specs.declared.file.File.TheVariants.{Image};
 ghost use Rattle.czi_rig.specs.State.{seen_of};
 ghost use Rattle.czi_rig.specs.MemRig.{state_in};
+ghost use Rattle.czi_doc.specs.QueryView.{query_of};
+ghost use Rattle.czi_paint.specs.Painted.{Paints};
 
-use crate::asked::{Asked, MOSAIC, opened, query};
+use crate::asked::{Asked, MOSAIC, STAIRS, opened, query};
 use crate::rows::push_rows;
 use czi_doc::{Pixel, Query};
 use czi_image::Index;
@@ -14,6 +16,7 @@ use czi_paint::Painter;
 use czi_report::pnm_head;
 use czi_rig::MemRig;
 use czi_sample::{Segment, Subblock};
+use czi_tiles::TileGrid;
 use std::alloc::Global;
 use std::process::Abort;
 use std::test::Fail;
@@ -31,7 +34,7 @@ const PIXEL: Subblock = Subblock {
 // An image, what is asked for, and the PNM file.
 type Row = (&'static [Segment<'static>], Asked, &'static [u8]);
 
-static ROWS: [Row; 10] = [
+static ROWS: [Row; 11] = [
     (
         &MOSAIC,
         (Pixel::Gray8, 1, (0, 0), (4, 1), None, b""),
@@ -120,26 +123,56 @@ static ROWS: [Row; 10] = [
         (Pixel::Gray8, 1, (0, 0), (3, 1), Some(2), b"C1"),
         b"P5\n3 1\n255\n\x00\x00\x00",
     ),
+    (
+        &STAIRS,
+        (Pixel::Gray8, 1, (0, 0), (5, 7), None, b""),
+        b"P5\n5 7\n255\nab\0\0\0cdAB\0efCDSghEF\0y\0\0\0\0z\0\0\0\0\0\0\0\0\0",
+    ),
 ];
 
 // The PNM file of a region of an image that a rig has.
-fn file(alloc: Global, rig: &mut MemRig, index: &Index, query: &Query) -> Result<Vec<u8>, Fail>
-    requires { ForSome (seen_of (state_in rig.old) Image) (λ image. index.now.length ≡ length image) }
+fn file(
+    alloc: Global,
+    rig: &mut MemRig,
+    index: &Index,
+    query: &Query,
+    painter: &mut Painter,
+) -> Result<Vec<u8>, Fail>
+    requires paints { Paints (query_of query.now) index.now.tiles.items 0 painter.old }
+    requires in_file { ForSome (seen_of (state_in rig.old) Image) (λ image. index.now.length ≡ length image) }
 {
+    let mut out = Vec::new(alloc);
+    pnm_head(query, &mut out)?;
+    push_rows(alloc, index, query, painter, rig, &mut out)?;
+    Ok(out)
+}
+
+// The same by a look at each tile, and how many calls it takes.
+fn plain_file(alloc: Global, segments: &[Segment], query: &Query) -> Result<(Vec<u8>, u64), Fail> {
+    let (mut rig, index) = opened(alloc, segments)?;
+    let before = rig.calls();
     let mut painter = Painter::new(alloc, &index.tiles, query).map_err(|_| Fail::new(
         "not painted",
     ))?;
-    let mut out = Vec::new(alloc);
-    pnm_head(query, &mut out)?;
-    push_rows(alloc, index, query, &mut painter, rig, &mut out)?;
-    Ok(out)
+    let file = file(alloc, &mut rig, &index, query, &mut painter)?;
+    Ok((file, rig.calls().saturating_sub(before)))
+}
+
+// The same through a grid.
+fn grid_file(alloc: Global, segments: &[Segment], query: &Query) -> Result<Vec<u8>, Fail> {
+    let (mut rig, index) = opened(alloc, segments)?;
+    let grid = TileGrid::build(alloc, &index.tiles)?;
+    let mut painter = Painter::with_grid(alloc, &index.tiles, &grid, query).map_err(|_| Fail::new(
+        "not painted",
+    ))?;
+    file(alloc, &mut rig, &index, query, &mut painter)
 }
 
 fn check_row(rt: &impl Abort, alloc: Global, (segments, asked, told): &Row) -> Result<(), Fail> {
     let query = query(alloc, asked)?;
-    let (mut rig, index) = opened(alloc, segments)?;
-    let file = file(alloc, &mut rig, &index, &query)?;
-    assert!(rt; file.as_slice() == *told);
+    let (plain, _) = plain_file(alloc, segments, &query)?;
+    assert!(rt; plain.as_slice() == *told);
+    assert!(rt; grid_file(alloc, segments, &query)?.as_slice() == *told);
     Ok(())
 }
 
@@ -151,13 +184,31 @@ fn regions_are_told_as_pnm_files(rt: HostRuntime) -> Result<(), Fail> {
     Ok(())
 }
 
+// An image, what is asked for, and how many reads it takes.
+type Reads = (&'static [Segment<'static>], Asked, u64);
+
+static READS: [Reads; 4] = [
+    (&MOSAIC, (Pixel::Gray8, 1, (0, 0), (4, 1), None, b""), 2),
+    (&STAIRS, (Pixel::Gray8, 1, (0, 0), (5, 7), None, b""), 11),
+    (&STAIRS, (Pixel::Gray8, 1, (2, 2), (1, 2), None, b""), 3),
+    (&STAIRS, (Pixel::Gray8, 1, (0, 6), (5, 9), None, b""), 0),
+];
+
+fn check_reads(
+    rt: &impl Abort,
+    alloc: Global,
+    (segments, asked, reads): &Reads,
+) -> Result<(), Fail> {
+    let query = query(alloc, asked)?;
+    let (_, calls) = plain_file(alloc, segments, &query)?;
+    assert!(rt; calls == *reads);
+    Ok(())
+}
+
 #[test]
 fn a_row_takes_a_read_for_each_tile_that_it_shows(rt: HostRuntime) -> Result<(), Fail> {
-    let alloc = rt.alloc();
-    let query = query(alloc, &(Pixel::Gray8, 1, (0, 0), (4, 1), None, b""))?;
-    let (mut rig, index) = opened(alloc, &MOSAIC)?;
-    let before = rig.calls();
-    file(alloc, &mut rig, &index, &query)?;
-    assert!(&rt; rig.calls() == before + 2);
+    for row in READS.iter() {
+        check_reads(&rt, rt.alloc(), row)?;
+    }
     Ok(())
 }

@@ -1,7 +1,7 @@
 -- The chosen tiles are among those that a grid finds.
-use Rattle.std.proofs.Common.{◌≡◌, ℕ, zero, suc, ◌+◌, ◌/◌, ◌^◌, ◌<◌, ◌≤◌, ℤ, pos, ◌+ℤ◌, ◌-ℤ◌, ◌≤ℤ◌, ◌<ℤ◌, List, length, get_or, Option, None, Some, Bool, true, false, ◌&&◌, ◌||◌, nat_lt, refl, ap, sym, subst, ◌∙◌, arith, inl, inr}
+use Rattle.std.proofs.Common.{◌≡◌, ℕ, zero, suc, ◌+◌, ◌/◌, ◌^◌, ◌<◌, ◌≤◌, ℤ, pos, ◌+ℤ◌, ◌-ℤ◌, ◌≤ℤ◌, ◌<ℤ◌, List, [], length, get_or, Option, None, Some, Bool, true, false, ◌&&◌, ◌||◌, nat_lt, refl, ap, sym, subst, ◌∙◌, arith, inl, inr}
 use Rattle.std.specs.Option.{is_some, unwrap_or}
-use Rattle.std.specs.List.{list_any, range_with_len}
+use Rattle.std.specs.List.{All, Contains, list_any, range_with_len}
 use Rattle.std.specs.List.Sorted.{IsPermutation, IsNonDecreasing}
 use Rattle.std.proofs.lemmas.Bool.{cases_Bool, cases_lt, and_parts}
 use Rattle.std.proofs.lemmas.Bool.Decides.{nat_tests}
@@ -13,11 +13,11 @@ use Rattle.czi_format.specs.Text.{stored_size}
 use Rattle.czi_format.specs.Partial.{◌>>=◌, natural, given}
 use Rattle.czi_format.proofs.Readings.{bind_some, given_some, both_true, natural_some}
 use Rattle.czi_image.specs.declared.types.Tile.{Tile}
-use Rattle.czi_format.specs.Painting.{Query, first_x, first_y, stored_pixel, stored_at, point, meets_one, in_both, belongs, is_chosen}
+use Rattle.czi_format.specs.Painting.{Query, first_x, first_y, stored_pixel, stored_at, point, meets_one, in_plane, in_scene, in_layer, in_both, belongs, is_chosen}
 use Rattle.czi_tiles.specs.declared.cell.Cell.{Cell}
 use Rattle.czi_tiles.specs.declared.grid.TileGrid.{TileGrid}
 use Rattle.czi_tiles.specs.Chosen.{tile_dims}
-use Rattle.czi_tiles.specs.Cells.{cell_of, cell_at, Covers, IsIndexed, AddsAll, AddsTile}
+use Rattle.czi_tiles.specs.Cells.{cell_of, cell_at, key, sheet_of, start_in, Covers, IsIndexed, AddsAll, AddsKeys, AddsMet, AddsTile}
 use Rattle.czi_tiles.specs.Grid.{HasTiles, IsGrid, IsCandidates}
 use Rattle.czi_tiles.proofs.Celled.{still_indexed}
 
@@ -85,46 +85,78 @@ chosen_in q dims (Some x) (Some y) is_x is_y e =
 is_met : (q : Query) (dims : List Dim) → is_chosen q dims ≡ true → Chosen q dims
 is_met q dims e = chosen_in q dims (first_x dims) (first_y dims) refl refl (and_parts (belongs q dims) (in_both dims (λ x y. meets_one q.layer x q.x q.w && meets_one q.layer y q.y q.h)) e).1
 
--- the cells of a region
-abbrev pub Meets : ℤ → ℕ → ℕ → ℕ → ℕ → Type 0
-Meets from m n first last = (i : ℕ) → i < n → cell_of (point from m i) < 2 ^ 21 → (first ≤ cell_of (point from m i)) × (cell_of (point from m i) ≤ last)
+-- the cells of a region, of a level
+abbrev pub Meets : ℕ → ℤ → ℕ → ℕ → ℕ → ℕ → Type 0
+Meets level from m n first last = (i : ℕ) → i < n → cell_of level (point from m i) < 2 ^ 21 → (first ≤ cell_of level (point from m i)) × (cell_of level (point from m i) ≤ last)
+
+-- the places of the cells that are met
+pub met_there : (q : Query) (cells : List Cell) (level sheet top bottom first last : ℕ) (old new : List ℕ) → Meets level q.x q.layer q.w first last → Meets level q.y q.layer q.h top bottom
+    → AddsAll cells sheet top bottom first last old new → AddsMet q cells level sheet old new
+met_there q cells level sheet top bottom first last old new columns rows adds = record {
+  adds = adds.adds;
+  there = λ i j place low below low_row low_column has.
+      let column = columns i low low_column in
+      let row = rows j below low_row in
+      adds.there (cell_of level (point q.y q.layer j)) (cell_at sheet (cell_of level (point q.y q.layer j)) (cell_of level (point q.x q.layer i)) place) row.0 row.1 has (omega (arith, column.0)) (omega (arith, column.1));
+}
+
+-- the places of the cells that are met, of the first n levels and with keys from a first to a last one
+pub record AddsLevels (q : Query) (cells : List Cell) (first last n : ℕ) (places : List ℕ) : Type 0 where
+  pub bound : (m : ℕ) → All (λ c. c.place < m) cells → All (λ k. k < m) places
+  pub there : (level k i j place : ℕ) → level < n → first ≤ k → k ≤ last → i < q.w → j < q.h → cell_of level (point q.y q.layer j) < 2 ^ 21 → cell_of level (point q.x q.layer i) < 2 ^ 21
+      → Contains cells (cell_at (sheet_of level k) (cell_of level (point q.y q.layer j)) (cell_of level (point q.x q.layer i)) place) → Contains places place
+
+pub no_levels : (q : Query) (cells : List Cell) (first last : ℕ) → AddsLevels q cells first last 0 []
+no_levels q cells first last = record {
+  bound = λ m all i d low. absurd (omega (arith, low));
+  there = λ level k i j place none from to low below low_row low_column has. absurd (omega (arith, none));
+}
+
+pub more_levels : (q : Query) (cells : List Cell) (first last n : ℕ) (old new : List ℕ) → AddsLevels q cells first last n old → AddsKeys q cells n first last old new → AddsLevels q cells first last (n + 1) new
+more_levels q cells first last n old new was more = record {
+  bound = λ m all. more.adds.bound m all (was.bound m all);
+  there = λ level k i j place up from to low below low_row low_column has. elim (cases_lt level n) [
+    | inl before ↦ more.adds.keeps place (was.there level k i j place before from to low below low_row low_column has)
+    | inr at ↦
+        let same : level ≡ n = omega (arith, at, up) in
+        more.there k i j place from to low below (subst (λ l. cell_of l (point q.y q.layer j) < 2 ^ 21) same low_row) (subst (λ l. cell_of l (point q.x q.layer i) < 2 ^ 21) same low_column)
+        (subst (λ l. Contains cells (cell_at (sheet_of l k) (cell_of l (point q.y q.layer j)) (cell_of l (point q.x q.layer i)) place)) same has)
+  ];
+}
 
 -- the places that are found
-pub candidates : (q : Query) (tiles : List Tile) (g : TileGrid) (top bottom first last : ℕ) (places sorted : List ℕ) → IsGrid tiles g → Meets q.x q.layer q.w first last → Meets q.y q.layer q.h top bottom
-    → AddsAll g.cells.items top bottom first last g.wide.items places → IsPermutation places sorted → IsNonDecreasing sorted → IsCandidates q tiles sorted
-candidates q tiles g top bottom first last places sorted grid columns rows adds moved up = record {
-  there = All-permutation (λ k. k < length tiles) places sorted moved (adds.bound (length tiles) grid.cells_there grid.wide_there);
+pub candidates : (q : Query) (tiles : List Tile) (g : TileGrid) (first last : ℕ) (places sorted : List ℕ) → IsGrid tiles g
+    → ((dims : List Dim) → in_plane q.plane dims ≡ true → (first ≤ key (start_in g.axis dims)) × (key (start_in g.axis dims) ≤ last))
+    → AddsLevels q g.cells.items first last 5 places → IsPermutation places sorted → IsNonDecreasing sorted → IsCandidates q tiles sorted
+candidates q tiles g first last places sorted grid keys adds moved up = record {
+  there = All-permutation (λ k. k < length tiles) places sorted moved (adds.bound (length tiles) grid.there);
   rising = up;
   all = λ k t low is passes.
       let c = is_met q (tile_dims t) passes in
-      Contains-permutation places sorted k moved (elim (grid.each k t low is c.x c.y c.is_x c.is_y (point q.x q.layer c.i) (point q.y q.layer c.j) c.on_x c.on_y) [
-        | inl beside ↦ adds.keeps k beside
-        | inr within ↦
-            let column = columns c.i c.low within.1 in
-            let row = rows c.j c.below within.0 in
-            adds.there (cell_of (point q.y q.layer c.j)) (cell_at (cell_of (point q.y q.layer c.j)) (cell_of (point q.x q.layer c.i)) k) row.0 row.1 within.2 (omega (arith, column.0)) (omega (arith, column.1))
-      ]);
+      let there : belongs q (tile_dims t) ≡ true = (and_parts (belongs q (tile_dims t)) (in_both (tile_dims t) (λ x y. meets_one q.layer x q.x q.w && meets_one q.layer y q.y q.h)) passes).0 in
+      let plane : in_plane q.plane (tile_dims t) ≡ true = (and_parts (in_plane q.plane (tile_dims t)) (in_scene q.scene (tile_dims t) && in_both (tile_dims t) (in_layer q.layer)) there).0 in
+      let one = keys (tile_dims t) plane in
+      let stands = grid.each k t low is c.x c.y c.is_x c.is_y (point q.x q.layer c.i) (point q.y q.layer c.j) c.on_x c.on_y in
+      Contains-permutation places sorted k moved (adds.there stands.0 (key (start_in g.axis (tile_dims t))) c.i c.j k (omega (arith, stands.1)) one.0 one.1 c.low c.below stands.2 stands.3 stands.4);
 }
 
 -- one tile more
-pub more_tiles : (tiles : List Tile) (i : ℕ) (cells more : List Cell) (wide wider : List ℕ) (t : Tile) → i < length tiles → t ≡ get_or tiles i t → HasTiles tiles i cells wide
-    → AddsTile (tile_dims t) i cells more wide wider → HasTiles tiles (i + 1) more wider
-more_tiles tiles i cells more wide wider t low is has adds = record {
-  cells_there = adds.bound (length tiles) low has.cells_there;
-  wide_there = adds.bound_wide (length tiles) low has.wide_there;
+pub more_tiles : (axis : List ℕ) (tiles : List Tile) (i : ℕ) (cells more : List Cell) (t : Tile) → i < length tiles → t ≡ get_or tiles i t → HasTiles axis tiles i cells
+    → AddsTile axis (tile_dims t) i cells more → HasTiles axis tiles (i + 1) more
+more_tiles axis tiles i cells more t low is has adds = record {
+  there = adds.bound (length tiles) low has.there;
   each = λ k s less this. elim (cases_lt k i) [
-    | inl before ↦ still_indexed cells more wide wider k (tile_dims s) adds.keeps adds.keeps_wide (has.each k s before this)
+    | inl before ↦ still_indexed axis cells more k (tile_dims s) adds.keeps (has.each k s before this)
     | inr at ↦
         let same : i ≡ k = omega (arith, at, less) in
         let one : t ≡ s = is ∙ (get_or_default tiles i t s low ∙ (ap (λ n. get_or tiles n s) same ∙ sym this)) in
-        subst (λ (d : Tile). IsIndexed more wider k (tile_dims d)) one (subst (λ n. IsIndexed more wider n (tile_dims t)) same adds.indexed)
+        subst (λ (d : Tile). IsIndexed axis more k (tile_dims d)) one (subst (λ n. IsIndexed axis more n (tile_dims t)) same adds.indexed)
   ];
 }
 
 -- cells in another order
-pub moved_cells : (tiles : List Tile) (n : ℕ) (cells sorted : List Cell) (wide : List ℕ) → IsPermutation cells sorted → HasTiles tiles n cells wide → HasTiles tiles n sorted wide
-moved_cells tiles n cells sorted wide moved has = record {
-  cells_there = All-permutation (λ (c : Cell). c.place < length tiles) cells sorted moved has.cells_there;
-  wide_there = has.wide_there;
-  each = λ k t low is. still_indexed cells sorted wide wide k (tile_dims t) (λ x h. Contains-permutation cells sorted x moved h) (λ x h. h) (has.each k t low is);
+pub moved_cells : (axis : List ℕ) (tiles : List Tile) (n : ℕ) (cells sorted : List Cell) → IsPermutation cells sorted → HasTiles axis tiles n cells → HasTiles axis tiles n sorted
+moved_cells axis tiles n cells sorted moved has = record {
+  there = All-permutation (λ (c : Cell). c.place < length tiles) cells sorted moved has.there;
+  each = λ k t low is. still_indexed axis cells sorted k (tile_dims t) (λ x h. Contains-permutation cells sorted x moved h) (has.each k t low is);
 }

@@ -5,5 +5,8 @@ pub mod Chosen
 pub mod Covers
 pub mod Turns
 pub mod Passed
+pub mod Axes
+pub mod Sided
 pub mod Celled
+pub mod Skipped
 pub mod Gridded

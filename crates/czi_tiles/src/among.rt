@@ -14,7 +14,7 @@ use czi_image::Tile;
 use std::alloc::{AllocError, Global};
 
 /// Adds the turn of a tile at a place, where it is chosen.
-fn push_chosen(
+pub(crate) fn push_chosen(
     turns: &mut Vec<Turn>,
     tiles: &[Tile],
     query: &Query,

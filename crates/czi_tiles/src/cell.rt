@@ -1,11 +1,11 @@
-//! Cells of a grid over an image: squares of 4096 by 4096 logical pixels.
+//! Cells of a grid over an image: squares of logical pixels, on levels of growing size.
 
 ghost use Rattle.std.specs.Prelude.{◌≡◌, ◌<◌, ◌^◌};
 
 /// That a tile stands in a cell.
 #[derive(Clone, Copy, PartialEq, Eq)]
 pub struct Cell {
-    /// The cell's number, row by row.
+    /// The cell's number, level by level and row by row.
     pub(crate) number: u64,
     /// The tile's place in the directory.
     pub(crate) place: u32,

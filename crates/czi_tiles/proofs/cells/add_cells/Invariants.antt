@@ -7,5 +7,5 @@ abbrev pub invariant-loop-row : goal.invariant-loop-row
 invariant-loop-row l = record {
   keeps : Keeps l.initial.cells.items l.cells.items;
   bound : KeepsBound l.place l.initial.cells.items l.cells.items;
-  there : (row column : ℕ) → l.fn.rows.first ≤ row → row < l.row → l.fn.columns.first ≤ column → column ≤ l.fn.columns.last → Contains l.cells.items (cell_at row column l.place);
+  there : (row column : ℕ) → l.fn.rows.first ≤ row → row < l.row → l.fn.columns.first ≤ column → column ≤ l.fn.columns.last → Contains l.cells.items (cell_at l.sheet row column l.place);
 }

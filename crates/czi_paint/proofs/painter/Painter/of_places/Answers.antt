@@ -6,6 +6,7 @@ use Rattle.czi_paint.specs.declared.patch.Patch.{Patch}
 use Rattle.czi_doc.specs.QueryView.{query_of}
 use Rattle.czi_tiles.specs.Chosen.{tile_dims}
 use Rattle.czi_paint.specs.Patched.{subblock_in}
+use Rattle.czi_paint.specs.Sweep.{HasEntered}
 use Rattle.czi_paint.specs.Patches.{EndsBelow, FitsRow, patch_pixel}
 use Rattle.czi_paint.proofs.Painted.{painted, lying, fitting, near}
 use Rattle.czi_paint.proofs.painter.Painter.of_places.Goals as goal
@@ -19,6 +20,7 @@ invariant_of-result c =
       fit = All-from_recursion (FitsRow q.w) c.in_ok-patches.patches.items (fitting q cs c.in_ok-patches.patches.items c.in_ok-patches.ensures.1);
       small = subst (λ n. All (EndsBelow (2 ^ 62) n) c.in_ok-patches.patches.items) (sym c.bytes.ensures.size)
           (All-from_recursion (EndsBelow (2 ^ 62) q.pixel.size) c.in_ok-patches.patches.items (lying q (2 ^ 62) cs c.in_ok-patches.patches.items c.in_ok-patches.ensures.1 (near cs)));
+      entered = subst (λ ps. HasEntered ps 0 c.in_ok-sweep.sweep) c.deref.ensures.value c.in_ok-sweep.ensures;
     }
 
 pub returns : goal.returns

@@ -2,4 +2,4 @@ use Rattle.czi_tiles.specs.Grid.{HasTiles}
 use Rattle.czi_tiles.proofs.grid.TileGrid.build.Given as goal
 
 abbrev pub invariant-loop-i : goal.invariant-loop-i
-invariant-loop-i l = HasTiles l.tiles l.i l.cells.items l.wide.items
+invariant-loop-i l = HasTiles l.axis l.tiles l.i l.cells.items

@@ -1,21 +1,15 @@
-use Rattle.std.proofs.Common.{◌≡◌, ◌∙◌, ℕ, ℤ, List, [], ◌∷◌, map, Option, refl, ap}
-use Rattle.czi_image.specs.declared.types.Tile.{Tile}
-use Rattle.czi_format.specs.Painting.{chosen, turn}
+use Rattle.std.proofs.Common.{◌<◌, length, subst, sym}
+use Rattle.std.specs.List.{All}
+use Rattle.std.specs.List.Sorted.{IsNonDecreasing}
 use Rattle.czi_doc.specs.QueryView.{query_of}
-use Rattle.czi_tiles.specs.declared.turn.Turn.{Turn}
-use Rattle.czi_tiles.specs.Chosen.{tile_dims, turn_of}
+use Rattle.czi_tiles.specs.Candidates.{HasChosen}
 use Rattle.czi_tiles.proofs.grid.TileGrid.select.Goals as goal
 
-places : (turns : List Turn) → map (λ (t : Turn). t.place) turns ≡ map (λ (s : Option ℤ × ℕ). s.1) (map turn_of turns)
-places [] = refl
-places (t ∷ ts) = ap (λ l. t.place ∷ l) (places ts)
+pub turns_among-requires-clause-there : goal.turns_among-requires-clause-there
+turns_among-requires-clause-there c = subst (λ l. All (λ k. k < length c.args.tiles.now) l) (sym c.deref.ensures.value) (c.in_ok-candidates.ensures c.args.tiles.now c.requires.built).there
 
-chosen_places : (ts : List (ℕ × Tile)) → map (λ (s : Option ℤ × ℕ). s.1) (map (turn tile_dims) ts) ≡ map (λ (t : ℕ × Tile). t.0) ts
-chosen_places [] = refl
-chosen_places (t ∷ ts) = ap (λ l. t.0 ∷ l) (chosen_places ts)
+pub turns_among-requires-clause-rising : goal.turns_among-requires-clause-rising
+turns_among-requires-clause-rising c = subst (λ l. IsNonDecreasing l) (sym c.deref.ensures.value) (c.in_ok-candidates.ensures c.args.tiles.now c.requires.built).rising
 
-pub returns : goal.returns
-returns c =
-    c.in_ok-places.ensures
-    ∙ (ap (map (λ (t : Turn). t.place)) c.deref.ensures.value
-    ∙ (places c.in_ok-turns.turns.items ∙ (ap (map (λ (s : Option ℤ × ℕ). s.1)) c.in_ok-turns.ensures ∙ chosen_places (chosen tile_dims (query_of c.args.query.now) c.args.tiles.now))))
+pub turns_among-requires-clause-all : goal.turns_among-requires-clause-all
+turns_among-requires-clause-all c = subst (λ l. HasChosen (query_of c.args.query.now) c.args.tiles.now l) (sym c.deref.ensures.value) (c.in_ok-candidates.ensures c.args.tiles.now c.requires.built).all
