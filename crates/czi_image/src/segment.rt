@@ -57,6 +57,7 @@ pub(crate) fn sound_in(front: &[u8], id: SegId, at: u64, size: u64) -> Option<Se
     requires inside { at + 32 ≤ size }
     ensures found { option_map (header_of at) result ≡ sound_in front.now (id_bytes id) at size }
     ensures inside { IfSome result (λ h. at + 32 + h.allocated ≤ size) }
+    ensures used { IfSome result (λ h. h.used ≤ h.allocated) }
 {
     let head = read_header(&read_bytes(front, 0))?;
     let is_sound = head.allocated <= size - 32 - at

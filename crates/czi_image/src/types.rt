@@ -27,6 +27,7 @@ pub struct Tile {
     /// AttachmentSize, in bytes.
     pub tail: u64,
     pub ghost extent: { span.len ≡ 32 + head.allocated },
+    pub ghost sound: { head.used ≤ head.allocated },
     pub ghost ends: { span.at + span.len ≤ 2 ^ 62 },
     pub ghost begins: { span.at + 32 ≤ begin },
     pub ghost contents: { begin + meta + pixels + tail ≤ span.at + span.len },
@@ -46,6 +47,7 @@ pub struct AttItem {
     /// DataSize, in bytes.
     pub size: u64,
     pub ghost extent: { span.len ≡ 32 + head.allocated },
+    pub ghost sound: { head.used ≤ head.allocated },
     pub ghost ends: { span.at + span.len ≤ 2 ^ 62 },
     pub ghost contents: { CONTENTS_PLACE + size ≤ span.len },
 }
@@ -64,6 +66,7 @@ pub struct MetaItem {
     /// AttachmentSize, in bytes.
     pub tail: u64,
     pub ghost extent: { span.len ≡ 32 + head.allocated },
+    pub ghost sound: { head.used ≤ head.allocated },
     pub ghost ends: { span.at + span.len ≤ 2 ^ 62 },
     pub ghost contents: { CONTENTS_PLACE + xml + tail ≤ span.len },
 }

@@ -1,7 +1,7 @@
 -- The entries of an attachment directory after an act.
-use Rattle.std.proofs.Common.{◌≡◌, ◌≢◌, ℕ, ◌+◌, ◌*◌, List, [], ◌∷◌, ◌++◌, map, length, sum, true, false, flat_map, refl, ap, sym, ◌∙◌, arith, pos, replicate, append_assoc, append-nil, length-append, get_or, take, drop, ◌<◌, ◌≤◌, subst, Ok, ◌||◌, nat_lt}
+use Rattle.std.proofs.Common.{◌≡◌, ◌≢◌, ℕ, ◌+◌, ◌*◌, List, [], ◌∷◌, ◌++◌, map, length, sum, true, false, flat_map, refl, ap, sym, ◌∙◌, arith, pos, replicate, append_assoc, append-nil, length-append, get_or, take, drop, ◌<◌, ◌≤◌, subst, Ok, ◌||◌, nat_lt, inl, inr}
 use Rattle.std.specs.List.{AllByRecursion}
-use Rattle.std.proofs.lemmas.Bool.{eq-eqb, ne_eqb}
+use Rattle.std.proofs.lemmas.Bool.{cases_Bool, eq-eqb, ne_eqb}
 use Rattle.std.proofs.lemmas.List.{drop-replicate, length-drop, length-take-le, length-map, length-replicate, map-append}
 use Rattle.czi_format.specs.Bytes.{i32_bytes, put_at}
 use Rattle.czi_format.specs.Data.{attdir_data}
@@ -32,12 +32,12 @@ use Rattle.czi_plan.specs.Attaching.{ArePartsOf, IsItemOf, attachment_in, att_ba
 use Rattle.czi_plan.specs.Changing.{IsNew, range_after, range_with, size_after, size_with, back_entries, entries_in, front_entries, middle_entries, tiles_before, tiles_behind, tiles_brought}
 use Rattle.czi_plan.specs.Directory.{as_long_in, back_in, middle_in}
 use Rattle.czi_plan.specs.Kind.{of_attachments}
-use Rattle.czi_plan.specs.Listing.{AreSizes}
+use Rattle.czi_plan.specs.Listing.{AreSizes, sizes_with}
 use Rattle.czi_plan.specs.declared.tiles.Parts.{Parts}
 use Rattle.czi_plan.specs.declared.tiles.Sizes.{Sizes}
 use Rattle.czi_plan.proofs.Acts.{parts_behind, range_as, size_as}
 use Rattle.czi_plan.proofs.ActStages.{sizes_as}
-use Rattle.czi_plan.proofs.Entries.{len_both, take_here}
+use Rattle.czi_plan.proofs.Entries.{len_both, sizes_are, take_here}
 
 pub a1_total : (items : List AttItem) → sum (map a1_len (entries_in of_attachments items)) ≡ 128 * length items
 a1_total [] = refl
@@ -50,17 +50,12 @@ stay p e = eq-eqb _ _ (omega (arith, e, a1_total p.brought.now, a1_total p.leavi
 move : (p : Parts AttItem) → length p.brought.now ≢ length p.leaving.now → as_long_in a1_len (entries_in of_attachments p.brought.now) (entries_in of_attachments p.leaving.now) ≡ false
 move p e = ne_eqb _ _ (λ same. e (omega (arith, same, a1_total p.brought.now, a1_total p.leaving.now)))
 
-pub sizes_stay : (p : Parts AttItem) → length p.brought.now ≡ length p.leaving.now
-    → AreSizes of_attachments (let s : Sizes = record { front = 256 + 128 * length p.before.now; middle = 128 * length p.brought.now; back = 128 * length p.behind.now } in s) (att_front p) (att_middle p) (att_back p)
-sizes_stay p e = rw (stay p e) (record { front_is = omega (arith, a1_total p.before.now); middle_is = omega (arith, a1_total p.brought.now); back_is = omega (arith, a1_total p.behind.now) })
-
-pub sizes_move : (p : Parts AttItem) → length p.brought.now ≢ length p.leaving.now
-    → AreSizes of_attachments (let s : Sizes = record { front = 256 + 128 * length p.before.now; middle = 128 * length p.brought.now + 128 * length p.behind.now; back = 0 } in s) (att_front p) (att_middle p) (att_back p)
-sizes_move p e = rw (move p e) (record {
-  front_is = omega (arith, a1_total p.before.now);
-  middle_is = omega (arith, len_both a1_len (entries_in of_attachments p.brought.now) (entries_in of_attachments p.behind.now), a1_total p.brought.now, a1_total p.behind.now);
-  back_is = refl;
-})
+-- the sizes of a list's parts
+pub parts_sized : (p : Parts AttItem) (s : Sizes) → s ≡ sizes_with (256 + 128 * length p.before.now) (128 * length p.brought.now) (128 * length p.leaving.now) (128 * length p.behind.now)
+    → AreSizes of_attachments s (att_front p) (att_middle p) (att_back p)
+parts_sized p s is = subst (λ s. AreSizes of_attachments s (att_front p) (att_middle p) (att_back p)) (sym is)
+    (sizes_are of_attachments (att_front p) (entries_in of_attachments p.brought.now) (entries_in of_attachments p.leaving.now) (entries_in of_attachments p.behind.now) _ _ _ _
+    (omega (arith, a1_total p.before.now)) (sym (a1_total p.brought.now)) (sym (a1_total p.leaving.now)) (sym (a1_total p.behind.now)))
 
 -- the entries that are written in place, and all of them
 pub middle_stays : (p : Parts AttItem) → length p.brought.now ≡ length p.leaving.now → att_middle p ≡ entries_in of_attachments p.brought.now
@@ -68,6 +63,20 @@ middle_stays p e = rw (stay p e) refl
 
 pub middle_moves : (p : Parts AttItem) → length p.brought.now ≢ length p.leaving.now → att_middle p ≡ entries_in of_attachments p.brought.now ++ entries_in of_attachments p.behind.now
 middle_moves p e = rw (move p e) refl
+
+-- how many bytes those in the middle have
+pub middle_long : (p : Parts AttItem) → (length p.brought.now ≡ length p.leaving.now → sum (map a1_len (att_middle p)) ≡ 128 * length p.brought.now)
+    × (length p.brought.now ≢ length p.leaving.now → sum (map a1_len (att_middle p)) ≡ 128 * length p.brought.now + 128 * length p.behind.now)
+middle_long p = (
+  λ e. ap (λ l. sum (map a1_len l)) (middle_stays p e) ∙ a1_total p.brought.now,
+  λ e. ap (λ l. sum (map a1_len l)) (middle_moves p e) ∙ omega (arith, len_both a1_len (entries_in of_attachments p.brought.now) (entries_in of_attachments p.behind.now), a1_total p.brought.now, a1_total p.behind.now),
+)
+
+pub middle_least : (p : Parts AttItem) → 128 * length p.brought.now ≤ sum (map a1_len (att_middle p))
+middle_least p = elim (cases_Bool (as_long_in a1_len (entries_in of_attachments p.brought.now) (entries_in of_attachments p.leaving.now))) [
+  | inl e ↦ rw e (omega (arith, a1_total p.brought.now))
+  | inr e ↦ rw e (omega (arith, len_both a1_len (entries_in of_attachments p.brought.now) (entries_in of_attachments p.behind.now), a1_total p.brought.now))
+]
 
 pub all_listed : (p : Parts AttItem) → att_front p ++ (att_middle p ++ att_back p) ≡ entries_in of_attachments p.before.now ++ (entries_in of_attachments p.brought.now ++ entries_in of_attachments p.behind.now)
 all_listed p = ap (λ l. att_front p ++ l) (parts_behind of_attachments (entries_in of_attachments p.brought.now) (entries_in of_attachments p.leaving.now) (entries_in of_attachments p.behind.now))
@@ -78,6 +87,13 @@ counted p =
     let C : List A1 = entries_in of_attachments p.brought.now in
     let D : List A1 = entries_in of_attachments p.behind.now in
     omega (arith, ap length (all_listed p), length-append B (C ++ D), length-append C D, length-map p.before.now of_attachments.entry, length-map p.brought.now of_attachments.entry, length-map p.behind.now of_attachments.entry)
+
+pub all_long : (p : Parts AttItem) → sum (map a1_len (att_front p ++ (att_middle p ++ att_back p))) ≡ 128 * att_count p
+all_long p =
+    let A : List A1 = entries_in of_attachments p.before.now in
+    let B : List A1 = entries_in of_attachments p.brought.now in
+    let D : List A1 = entries_in of_attachments p.behind.now in
+    omega (arith, ap (λ l. sum (map a1_len l)) (all_listed p), len_both a1_len A (B ++ D), len_both a1_len B D, a1_total p.before.now, a1_total p.brought.now, a1_total p.behind.now)
 
 pub all_bytes : (es fs gs : List A1) → flat_map a1_bytes (es ++ (fs ++ gs)) ≡ flat_map a1_bytes es ++ (flat_map a1_bytes fs ++ flat_map a1_bytes gs)
 all_bytes es fs gs = flat_map-append a1_bytes es (fs ++ gs) ∙ ap (λ l. flat_map a1_bytes es ++ l) (flat_map-append a1_bytes fs gs)

@@ -19,7 +19,7 @@ abbrev pub times : (Span → Bool) → List Span → ℕ
 times q [] = 0
 times q (s ∷ xs) = cond (q s) 1 0 + times q xs
 
-one_at_most : (b : Bool) → cond b 1 0 ≤ 1
+pub one_at_most : (b : Bool) → cond b 1 0 ≤ 1
 one_at_most true = omega arith
 one_at_most false = omega arith
 
@@ -66,7 +66,7 @@ times-left_of q t s = elim (cases_Bool (meets t s)) [
   | inr e ↦ rw e (omega (arith, one_at_most (q s)))
 ]
 
-lies_from : (from to : ℕ) (t : Span) (es : List Span) → AreExtents from to es → LiesInOne t es → from ≤ t.at
+pub lies_from : (from to : ℕ) (t : Span) (es : List Span) → AreExtents from to es → LiesInOne t es → from ≤ t.at
 lies_from from to t [] rise lies = absurd lies
 lies_from from to t (e ∷ es) rise (inl i) = omega (arith, rise.0, i.0)
 lies_from from to t (e ∷ es) rise (inr i) = omega (arith, rise.0, lies_from (end_of e) to t es rise.2 i)
@@ -91,7 +91,7 @@ times-none : (q : Span → Bool) (xs : List Span) → AllByRecursion (λ s. q s 
 times-none q [] all = refl
 times-none q (x ∷ xs) all = let none : q x ≡ false = all.0 in rw none (omega (arith, times-none q xs all.1))
 
-counted : (q : Span → Bool) (xs : List Span) → length (filter q xs) ≡ times q xs
+pub counted : (q : Span → Bool) (xs : List Span) → length (filter q xs) ≡ times q xs
 counted q [] = refl
 counted q (x ∷ xs) = elim (cases_Bool (q x)) [ inl e ↦ rw e (omega (arith, counted q xs)) | inr e ↦ rw e (omega (arith, counted q xs)) ]
 

@@ -8,7 +8,7 @@ use Rattle.czi_doc.specs.View.{info_of}
 use Rattle.czi_format.specs.Bytes.{IsBytes}
 use Rattle.czi_format.specs.Document.{Subblock}
 use Rattle.czi_format.specs.Entry.{Entry, EntryInfo, IsEntry, entry_bytes, entry_len, info_len}
-use Rattle.czi_format.specs.Space.{fit, use_span}
+use Rattle.czi_format.specs.Space.{Space, fit, use_all, use_span}
 use Rattle.czi_format.specs.Span.{Span}
 use Rattle.czi_format.proofs.Written.{length-entry_bytes}
 use Rattle.czi_image.specs.Applied.{walks_on}
@@ -20,7 +20,7 @@ use Rattle.czi_image.specs.declared.change.Change.{Change as CodeChange}
 use Rattle.czi_image.specs.declared.change.DirectoryChange.{DirectoryChange}
 use Rattle.czi_image.specs.declared.index.Index.{Index}
 use Rattle.czi_image.specs.declared.types.Tile.{Tile}
-use Rattle.czi_machine.specs.Change.{Change}
+use Rattle.czi_machine.specs.Change.{Change, out}
 use Rattle.czi_machine.specs.Places.{subblock_need}
 use Rattle.czi_machine.specs.Puts.{IsSubblock, head_of}
 use Rattle.czi_num.specs.declared.span.Span.{Span as CodeSpan}
@@ -29,7 +29,7 @@ use Rattle.czi_region.specs.declared.block.Piece.{Piece as Range}
 use Rattle.czi_region.specs.declared.block.Region.{Region}
 use Rattle.czi_space.specs.State.{MapState, space_of}
 use Rattle.czi_plan.specs.Bringing.{AreSizesOf, IsSeat, IsTileOf, act_at}
-use Rattle.czi_plan.specs.Changing.{Brings, IsNew, IsStaged, Starts, entries_in, new_sizes, new_spans, back_entries, front_entries, middle_entries, new_marks, range_after, range_with, size_after, size_of, size_with, space_behind, tiles_before, tiles_behind, tiles_brought, tiles_leaving}
+use Rattle.czi_plan.specs.Changing.{Begins, Brings, BringsNew, IsNew, IsStaged, Origin, Stages, Starts, edited, returned, entries_in, new_sizes, new_spans, back_entries, front_entries, middle_entries, new_marks, range_after, range_with, size_after, size_of, size_with, tiles_before, tiles_behind, tiles_brought, tiles_leaving}
 use Rattle.czi_plan.specs.Directory.{back_of, entries_of, middle_of}
 use Rattle.czi_plan.specs.Kind.{Kind, of_subblocks, span_in}
 use Rattle.czi_plan.specs.Listing.{AreSizes, IsPlace, KeepsPut, entries_len}
@@ -88,10 +88,17 @@ staged_kept old new s t writes keeps is =
     let kept = keeps is.piece is.staged in
     record { piece = is.piece; staged = kept.0; long = is.long; padding = is.padding; bytes = kept.1 ∙ is.bytes; only = is.only }
 
-pub brings_kept : {C E S : Type 0} (k : Kind C E S) (x : Index) (m : MapState) (old new : Region) (a : CodeAct C) (c : Change S) (writes : List (ℕ × Range)) → KeepsPut old new → Brings k x m old a c writes → Brings k x m new a c writes
-brings_kept k x m old new (Out i) c writes keeps b = b
-brings_kept k x m old new (Put i t) c writes keeps b = (b.0, b.1, b.2, staged_kept old new b.0 t writes keeps b.3)
-brings_kept k x m old new (Into i t) c writes keeps b = (b.0, b.1, b.2, staged_kept old new b.0 t writes keeps b.3)
+new_kept : {C E S : Type 0} (k : Kind C E S) (x : Index) (m : MapState) (old new : Region) (a : CodeAct C) (c : Change S) (writes : List (ℕ × Range)) → KeepsPut old new → BringsNew k x m old a c writes → BringsNew k x m new a c writes
+new_kept k x m old new (Out i) c writes keeps b = b
+new_kept k x m old new (Put i t) c writes keeps b = (b.0, b.1, b.2, staged_kept old new b.0 t writes keeps b.3)
+new_kept k x m old new (Into i t) c writes keeps b = (b.0, b.1, b.2, staged_kept old new b.0 t writes keeps b.3)
+
+pub brings_kept : {C E S : Type 0} (k : Kind C E S) (x : Index) (m : MapState) (old new : Region) (a : CodeAct C) (o : Origin (Change S)) (writes : List (ℕ × Range)) → KeepsPut old new → Brings k x m old a o writes → Brings k x m new a o writes
+brings_kept k x m old new a (edited c) writes keeps b = new_kept k x m old new a c writes keeps b
+brings_kept k x m old new a returned writes keeps b = b
+
+pub begins_kept : {C E S : Type 0} (k : Kind C E S) (x : Index) (m : MapState) (old new : Region) (a : CodeAct C) (o : Origin (Change S)) (d : DirectoryChange) (p : EditPlan) → KeepsPut old new → Begins k x m old a o d p → Begins k x m new a o d p
+begins_kept k x m old new a o d p keeps b = record { brings = brings_kept k x m old new a o p.writes.items keeps b.brings; starts = b.starts; place = b.place }
 
 -- An act at a place of a list, whatever it brings.
 pub few_at : {C : Type 0} (most : ℕ) (seat : Seat) (t : C) (items : List C) → IsSeat seat (length items) most → length items ≤ most
@@ -105,20 +112,12 @@ pub sizes_at : {C E S : Type 0} (k : Kind C E S) (sizes : Sizes) (seat : Seat) (
 sizes_at k sizes (Over i) s t items e of = of (k.entry t ∷ []) (omega (arith, e))
 sizes_at k sizes (Before i) s t items e of = of (k.entry t ∷ []) (omega (arith, e))
 
-pub space_at : {C E S : Type 0} (k : Kind C E S) (m : MapState) (seat : Seat) (t : C) → space_behind k (act_at seat t) m ≡ use_span (space_of m) (span_in k t)
-space_at k m (Over i) t = refl
-space_at k m (Before i) t = refl
-
-pub place_at : {C E S : Type 0} (k : Kind C E S) (x : Index) (m : MapState) (seat : Seat) (t : C) (sizes : Sizes) (span : Span) (d : DirectoryChange) → span_in k t ≡ span
+pub place_at : {C E S : Type 0} (k : Kind C E S) (x : Index) (seat : Seat) (t : C) (sizes : Sizes) (space : Space) (d : DirectoryChange)
     → AreSizes k sizes (front_entries k (act_at seat t) (k.items x)) (middle_entries k (act_at seat t) (k.items x)) (back_entries k (act_at seat t) (k.items x))
-    → IsPlace x (k.directory x) (sizes.front + sizes.middle + sizes.back) sizes.middle (use_span (space_of m) span) d
-    → IsPlace x (k.directory x) (size_after k (act_at seat t) x) (range_after k (act_at seat t) x) (space_behind k (act_at seat t) m) d
-place_at k x m seat t sizes span d is sizes_are place =
-    let space : use_span (space_of m) span ≡ space_behind k (act_at seat t) m = ap (use_span (space_of m)) (sym is) ∙ sym (space_at k m seat t) in
+    → IsPlace x (k.directory x) (sizes.front + sizes.middle + sizes.back) sizes.middle space d → IsPlace x (k.directory x) (size_after k (act_at seat t) x) (range_after k (act_at seat t) x) space d
+place_at k x seat t sizes space d sizes_are place =
     let size : sizes.front + sizes.middle + sizes.back ≡ size_after k (act_at seat t) x = sizes_total k sizes _ _ _ sizes_are in
-    subst (λ n. IsPlace x (k.directory x) n (range_after k (act_at seat t) x) (space_behind k (act_at seat t) m) d) size
-    (subst (λ n. IsPlace x (k.directory x) (sizes.front + sizes.middle + sizes.back) n (space_behind k (act_at seat t) m) d) sizes_are.middle_is
-    (subst (λ z. IsPlace x (k.directory x) (sizes.front + sizes.middle + sizes.back) sizes.middle z d) space place))
+    subst (λ n. IsPlace x (k.directory x) n (range_after k (act_at seat t) x) space d) size (subst (λ n. IsPlace x (k.directory x) (sizes.front + sizes.middle + sizes.back) n space d) sizes_are.middle_is place)
 
 pub brought_at : {X : Type 0} (seat : Seat) (x : X) → tiles_brought (act_at seat x) ≡ x ∷ []
 brought_at (Over i) x = refl
@@ -159,8 +158,8 @@ sizes_out sizes tiles i are = λ come none.
     let one : i + 1 - i ≡ 1 = omega arith in
     subst (λ n. AreSizes of_subblocks sizes (entries_of (take i tiles)) (middle_of come (entries_of (take n (drop i tiles))) (entries_of (drop (i + 1) tiles))) (back_of come (entries_of (take n (drop i tiles))) (entries_of (drop (i + 1) tiles)))) one (are come none)
 
-pub starts_at : {C E S : Type 0} (k : Kind C E S) (m : MapState) (seat : Seat) (t : C) (span : CodeSpan) (p q : EditPlan) → span_in k t ≡ span_of span → Starts k m [] p → q.used.items ≡ p.used.items ++ span ∷ [] → q.length ≡ max p.length (span.at + span.len)
-    → q ≡ record p { writes = q.writes; used = q.used; length = q.length } → Starts k m (new_spans k (act_at seat t)) q
+starts_at : {C E S : Type 0} (k : Kind C E S) (m : MapState) (seat : Seat) (t : C) (span : CodeSpan) (p q : EditPlan) → span_in k t ≡ span_of span → Starts k m [] p → q.used.items ≡ p.used.items ++ span ∷ [] → q.length ≡ max p.length (span.at + span.len)
+    → q ≡ record p { writes = q.writes; used = q.used; length = q.length; marks = q.marks } → Starts k m (new_spans k (act_at seat t)) q
 starts_at k m seat t span p q is starts used long others =
     let same : q.change ≡ p.change = ap (λ (z : EditPlan). z.change) others in
     let one : new_spans k (act_at seat t) ≡ span_of span ∷ [] = ap (map (span_in k)) (brought_at seat t) ∙ ap (λ z. z ∷ []) is in
@@ -172,13 +171,55 @@ starts_at k m seat t span p q is starts used long others =
       links = ap (λ (z : EditPlan). z.links.links) others ∙ starts.links;
       freed = ap (λ (z : EditPlan). z.freed.items) others ∙ starts.freed;
       held = ap (λ (z : EditPlan). z.held.items) others ∙ starts.held;
+      dead = ap (λ (z : EditPlan). z.dead.items) others ∙ starts.dead;
       used = ap (map span_of) used ∙ (map-append span_of p.used.items (span ∷ []) ∙ ap (λ l. l ++ span_of span ∷ []) starts.used);
       length = long ∙ ap (λ n. max n (span.at + span.len)) starts.length;
     })
 
-pub brings_at : {C E S : Type 0} (k : Kind C E S) (x : Index) (m : MapState) (region : Region) (seat : Seat) (s : S) (t : C) (writes : List (ℕ × Range)) → IsNew k x m s t → IsStaged k region s t writes → Brings k x m region (act_at seat t) (act_of (act_at seat s)) writes
+brings_at : {C E S : Type 0} (k : Kind C E S) (x : Index) (m : MapState) (region : Region) (seat : Seat) (s : S) (t : C) (writes : List (ℕ × Range)) → IsNew k x m s t → IsStaged k region s t writes → BringsNew k x m region (act_at seat t) (act_of (act_at seat s)) writes
 brings_at k x m region (Over i) s t writes new staged = (s, refl, new, staged)
 brings_at k x m region (Before i) s t writes new staged = (s, refl, new, staged)
+
+-- So it begins: with a new item,
+pub begins_at : {C E S : Type 0} (k : Kind C E S) (x : Index) (m : MapState) (region : Region) (seat : Seat) (s : S) (t : C) (span : CodeSpan) (d e : DirectoryChange) (p q : EditPlan) → span_in k t ≡ span_of span → e ≡ d → Starts k m [] p → q.used.items ≡ p.used.items ++ span ∷ []
+    → q.length ≡ max p.length (span.at + span.len) → q ≡ record p { writes = q.writes; used = q.used; length = q.length; marks = q.marks } → IsNew k x m s t → IsStaged k region s t q.writes.items
+    → IsPlace x (k.directory x) (size_after k (act_at seat t) x) (range_after k (act_at seat t) x) (use_span (space_of m) (span_of span)) d → Begins k x m region (act_at seat t) (edited (act_of (act_at seat s))) e q
+begins_at k x m region seat s t span d e p q is same starts used long others new staged place =
+    let needed : use_all (space_of m) (new_spans k (act_at seat t)) ≡ use_span (space_of m) (span_of span) = ap (λ l. use_all (space_of m) (map (span_in k) l)) (brought_at seat t) ∙ ap (use_span (space_of m)) is in
+    record {
+      brings = brings_at k x m region seat s t q.writes.items new staged;
+      starts = starts_at k m seat t span p q is starts used long others;
+      place = subst (λ z. IsPlace x (k.directory x) (size_after k (act_at seat t) x) (range_after k (act_at seat t) x) z e) (sym needed)
+          (subst (IsPlace x (k.directory x) (size_after k (act_at seat t) x) (range_after k (act_at seat t) x) (use_span (space_of m) (span_of span))) (sym same) place);
+    }
+
+-- or with none, as an edit or as an undo has it.
+pub begins_out : {C E S : Type 0} (k : Kind C E S) (x : Index) (m : MapState) (region : Region) (i : ℕ) (d : DirectoryChange) (p : EditPlan) → Starts k m [] p → p.writes.items ≡ []
+    → IsPlace x (k.directory x) (size_after k (Out i) x) (range_after k (Out i) x) (space_of m) d → Begins k x m region (Out i) (edited (out i)) d p
+begins_out k x m region i d p starts none place = record { brings = (refl, none); starts = starts; place = place }
+
+pub out_begins : {C E S : Type 0} (k : Kind C E S) (x : Index) (m : MapState) (region : Region) (i : ℕ) (d : DirectoryChange) (p : EditPlan) → Begins k x m region (Out i) (edited (out i)) d p → Begins k x m region (Out i) returned d p
+out_begins k x m region i d p b = record { brings = (tt, b.brings.1); starts = b.starts; place = b.place }
+
+pub out_stages : {C E S : Type 0} (k : Kind C E S) (x : Index) (m : MapState) (i : ℕ) (region : Region) (d : DirectoryChange) (p : EditPlan) → Stages k x m (Out i) (edited (out i)) region d p → Stages k x m (Out i) returned region d p
+out_stages k x m i region d p st = record {
+  within = st.within;
+  few = st.few;
+  first = st.first;
+  begins = out_begins k x m region i d st.first st.begins;
+  mid = st.mid;
+  marks = st.marks;
+  lists = st.lists;
+  writes = st.writes;
+  used = st.used;
+  length = st.length;
+  change = st.change;
+  held = st.held;
+  freed = st.freed;
+  dead = st.dead;
+  is_dead = st.is_dead;
+  links = st.links;
+}
 
 pub marks_at : {C E S : Type 0} (k : Kind C E S) (seat : Seat) (t : C) → new_marks k (act_at seat t) ≡ head_mark (k.segment t) ∷ []
 marks_at k seat t = ap (map (λ z. head_mark (k.segment z))) (brought_at seat t)

@@ -28,7 +28,7 @@ use Rattle.czi_region.specs.declared.block.Piece.{Piece as Range}
 use Rattle.czi_region.specs.declared.block.Region.{Region}
 use Rattle.czi_space.specs.State.{AreExtents, MapState, space_of}
 use Rattle.czi_space.proofs.Freed.{freed_extents}
-use Rattle.czi_plan.specs.Conditions.{IsMapOf}
+use Rattle.czi_plan.specs.Conditions.{IsMapOf, live_of}
 use Rattle.czi_plan.specs.Geometry.{AreFreed, IsLong}
 use Rattle.czi_plan.specs.Listing.{IsPlace}
 use Rattle.czi_plan.specs.Marks.{AreInOrder}
@@ -37,12 +37,12 @@ use Rattle.czi_plan.specs.Plan.{IsPlan, LiesFree, dead_of, extents_after, left_d
 use Rattle.czi_plan.specs.declared.plan.EditPlan.{EditPlan}
 use Rattle.czi_plan.proofs.Directing.{WritesDir, are_written}
 use Rattle.czi_plan.proofs.Order.{extents_apart, used_stay}
-use Rattle.czi_plan.proofs.Parts.{AreFound, IsFound, act_spans, brought_found, extents_ends, extents_whole, item_found, kept_of, left_cover, length_after, length_by, length_small, map_extents, meets_none, new_found, used_apart, used_by, used_free}
-use Rattle.czi_plan.proofs.Linking.{ActMarks, AreOwn, AreWhole, act_marks, all_entries, can_link, links_brief, links_rise, links_within, data_by, item_long, item_writes, marks_by, pieces_once, writes_by}
-use Rattle.czi_plan.proofs.KindLaws.{Laws, live_of}
+use Rattle.czi_plan.proofs.Parts.{IsFound, act_spans, all_within, beside_of, brought_by, brought_covers, extents_ends, extents_whole, item_found, left_cover, length_after, length_by, length_small, map_extents, meets_none, new_found, used_apart, used_by, used_free}
+use Rattle.czi_plan.proofs.Linking.{ActMarks, AreOwn, AreWhole, act_marks, all_entries, brought_long, can_link, links_brief, links_rise, links_within, data_by, item_long, item_writes, marks_by, pieces_once, writes_by}
+use Rattle.czi_plan.proofs.KindLaws.{Laws}
 use Rattle.czi_plan.specs.Kind.{Kind, span_in}
 use Rattle.czi_image.specs.declared.change.Act.{Act as CodeAct}
-use Rattle.czi_plan.specs.Changing.{Brings, IsNew, IsStaged, Stages, all_left, back_entries, front_entries, items_left, middle_entries, new_marks, new_spans, range_after, size_after, space_behind, tiles_before, tiles_behind, tiles_brought, tiles_leaving}
+use Rattle.czi_plan.specs.Changing.{Begins, Brings, BringsNew, IsNew, IsStaged, Origin, Stages, all_left, back_entries, beside_in, edited, front_entries, items_left, middle_entries, needed_in, new_marks, new_spans, range_after, returned, size_after, space_behind, tiles_before, tiles_behind, tiles_brought, tiles_leaving, used_in}
 use Rattle.czi_plan.proofs.Acts.{changed_act, entries_after_act, map-three, omitted_act}
 
 pub disjoint_once : (xs : List Span) → ((q : ℕ) → cover xs q ≤ 1) → AreDisjoint xs
@@ -64,7 +64,7 @@ pub record WriteWell (m : MapState) (from to : ℕ) (ws : List Bytes) : Type 0 w
   pub near : AreNear from ws
   pub last : last_end from ws ≡ to
 
-no_well : (m : MapState) (from : ℕ) → WriteWell m from from []
+pub no_well : (m : MapState) (from : ℕ) → WriteWell m from from []
 no_well m from = record { free = tt; far = tt; near = tt; last = refl }
 
 -- the data of a new segment
@@ -121,18 +121,18 @@ abbrev pub marks_of : {C E S : Type 0} → Kind C E S → CodeAct C → Director
 marks_of k a d x = new_marks k a ++ marks_by k (k.directory x) d (front_entries k a (k.items x)) (middle_entries k a (k.items x)) (back_entries k a (k.items x))
 
 -- The plan of an act: what is used and written, and what leaves.
-pub record Changes {C E S : Type 0} (k : Kind C E S) (x : Index) (m : MapState) (a : CodeAct C) (c : Change S) (region : Region) (d : DirectoryChange) (new : EditPlan) : Type 0 where
-  pub stages : Stages k x m a c region d new
-  pub marks : ActMarks k x m a region d stages.first stages.mid stages.marks
-  pub used : used_of new ≡ new_spans k a ++ used_by d
-  pub long : new.length ≡ length_after k a d m
+pub record Changes {C E S : Type 0} (k : Kind C E S) (x : Index) (m : MapState) (a : CodeAct C) (o : Origin (Change S)) (region : Region) (d : DirectoryChange) (new : EditPlan) : Type 0 where
+  pub stages : Stages k x m a o region d new
+  pub marks : ActMarks k x m a o region d stages.first stages.mid stages.marks
+  pub used : used_of new ≡ used_in k a o ++ used_by d
+  pub long : new.length ≡ length_after k a o d m
   pub staged : AllByRecursion (λ (w : ℕ × Range). IsPiece region w.1) new.writes.items
   pub writes : writes_of region new ≡ writes_of region stages.first ++ writes_by k d (all_entries k a x)
-  pub links : AreInOrder (marks_of k a d x) (new_spans k a ++ used_by d) (freed_by k a d x) (dead_of (all_left k a d x)) m.extents new.links.links
+  pub links : AreInOrder (marks_of k a d x) (used_in k a o ++ used_by d) (freed_by k a d x) (dead_of (all_left k a d x)) m.extents new.links.links
   pub leaves_items : left_items new.change x ≡ items_left k a x
   pub leaves : left_places new.change x ≡ all_left k a d x
-  pub dir : WritesDir k x (k.directory x) d (front_entries k a (k.items x)) (middle_entries k a (k.items x)) (back_entries k a (k.items x)) (space_behind k a m) m.length (length_after k a d m) (new_spans k a) (writes_of region stages.first) (new_marks k a)
-      (freed_by k a d x) (dead_of (all_left k a d x)) m.extents (map piece_of ((writes_of region stages.first ++ writes_by k d (all_entries k a x)) ++ new.links.links))
+  pub dir : WritesDir k x (k.directory x) d (front_entries k a (k.items x)) (middle_entries k a (k.items x)) (back_entries k a (k.items x)) (space_behind k a o m) m.length (length_after k a o d m) (used_in k a o) (beside_in k a o)
+      (writes_of region stages.first) (new_marks k a) (freed_by k a d x) (dead_of (all_left k a d x)) m.extents (map piece_of ((writes_of region stages.first ++ writes_by k d (all_entries k a x)) ++ new.links.links))
 
 -- The plan of an act on either list.
 module _ {C E S : Type 0} {k : Kind C E S} (L : Laws k) where
@@ -143,24 +143,33 @@ module _ {C E S : Type 0} {k : Kind C E S} (L : Laws k) where
       subst (WriteWell m m.length (max m.length (end_of (span_in k t)))) (sym (item_writes region s t writes staged))
       (one_well x m [] m.length (span_in k t) (record { place = (span_in k t).at + 32; bytes = k.contents t s staged.padding }) is (item_found L x m s t is new) far refl (omega (arith, item_long L region s t writes staged, L.extent t)))
 
-  brought_well : (x : Index) (m : MapState) (region : Region) (a : CodeAct C) (c : Change S) (writes : List (ℕ × Range)) → IsMapOf x m → Brings k x m region a c writes → AllByRecursion (λ (s : Span). 112 ≤ s.at) (new_spans k a)
-      → WriteWell m m.length (space_behind k a m).length (bytes_in region writes)
-  brought_well x m region (Out i) c writes is b far = subst (λ w. WriteWell m m.length m.length (bytes_in region w)) (sym b.1) (no_well m m.length)
-  brought_well x m region (Put i t) c writes is b far = item_well x m region b.0 t writes is b.2 b.3 far.0
-  brought_well x m region (Into i t) c writes is b far = item_well x m region b.0 t writes is b.2 b.3 far.0
+  new_well : (x : Index) (m : MapState) (region : Region) (a : CodeAct C) (c : Change S) (writes : List (ℕ × Range)) → IsMapOf x m → BringsNew k x m region a c writes → AllByRecursion (λ (s : Span). 112 ≤ s.at) (new_spans k a)
+      → WriteWell m m.length (use_all (space_of m) (new_spans k a)).length (bytes_in region writes)
+  new_well x m region (Out i) c writes is b far = subst (λ w. WriteWell m m.length m.length (bytes_in region w)) (sym b.1) (no_well m m.length)
+  new_well x m region (Put i t) c writes is b far = item_well x m region b.0 t writes is b.2 b.3 far.0
+  new_well x m region (Into i t) c writes is b far = item_well x m region b.0 t writes is b.2 b.3 far.0
 
-  pub brought_staged : (x : Index) (m : MapState) (region : Region) (a : CodeAct C) (c : Change S) (writes : List (ℕ × Range)) → Brings k x m region a c writes → AllByRecursion (λ (w : ℕ × Range). IsPiece region w.1) writes
-  brought_staged x m region (Out i) c writes b = subst (AllByRecursion (λ (w : ℕ × Range). IsPiece region w.1)) (sym b.1) tt
-  brought_staged x m region (Put i t) c writes b = subst (AllByRecursion (λ (w : ℕ × Range). IsPiece region w.1)) (sym b.3.only) (b.3.staged, tt)
-  brought_staged x m region (Into i t) c writes b = subst (AllByRecursion (λ (w : ℕ × Range). IsPiece region w.1)) (sym b.3.only) (b.3.staged, tt)
+  brought_well : (x : Index) (m : MapState) (region : Region) (a : CodeAct C) (o : Origin (Change S)) (writes : List (ℕ × Range)) → IsMapOf x m → Brings k x m region a o writes → AllByRecursion (λ (s : Span). 112 ≤ s.at) (new_spans k a)
+      → WriteWell m m.length (space_behind k a o m).length (bytes_in region writes)
+  brought_well x m region a (edited c) writes is b far = new_well x m region a c writes is b far
+  brought_well x m region a returned writes is b far = subst (λ w. WriteWell m m.length m.length (bytes_in region w)) (sym b.1) (no_well m m.length)
+
+  new_staged : (x : Index) (m : MapState) (region : Region) (a : CodeAct C) (c : Change S) (writes : List (ℕ × Range)) → BringsNew k x m region a c writes → AllByRecursion (λ (w : ℕ × Range). IsPiece region w.1) writes
+  new_staged x m region (Out i) c writes b = subst (AllByRecursion (λ (w : ℕ × Range). IsPiece region w.1)) (sym b.1) tt
+  new_staged x m region (Put i t) c writes b = subst (AllByRecursion (λ (w : ℕ × Range). IsPiece region w.1)) (sym b.3.only) (b.3.staged, tt)
+  new_staged x m region (Into i t) c writes b = subst (AllByRecursion (λ (w : ℕ × Range). IsPiece region w.1)) (sym b.3.only) (b.3.staged, tt)
+
+  pub brought_staged : (x : Index) (m : MapState) (region : Region) (a : CodeAct C) (o : Origin (Change S)) (writes : List (ℕ × Range)) → Brings k x m region a o writes → AllByRecursion (λ (w : ℕ × Range). IsPiece region w.1) writes
+  brought_staged x m region a (edited c) writes b = new_staged x m region a c writes b
+  brought_staged x m region a returned writes b = subst (AllByRecursion (λ (w : ℕ × Range). IsPiece region w.1)) (sym b.1) tt
 
   -- and a new directory
-  dir_well : (x : Index) (m : MapState) (used : List Span) (size range : ℕ) (d : DirectoryChange) (front middle back : List E) → IsMapOf x m → AreFound m.length m.held m.extents used → IsPlace x (k.directory x) size range (use_all (space_of m) used) d → AreWhole k d front middle back
-      → AllByRecursion (λ (s : Span). 112 ≤ s.at) (used_by d) → WriteWell m (use_all (space_of m) used).length (length_by d (use_all (space_of m) used).length) (writes_by k d (front ++ (middle ++ back)))
-  dir_well x m used size range Kept front middle back is all place whole far = absurd place
-  dir_well x m used size range Patched front middle back is all place whole far = no_well m (use_all (space_of m) used).length
-  dir_well x m used size range (New d) front middle back is all place whole far =
-      one_well x m used (use_all (space_of m) used).length (directory_span d) (record { place = d.span.at + 32; bytes = data_by k d (front ++ (middle ++ back)) }) is (new_found x m size used d is all place.1) far.0 refl (omega (arith, whole.1, d.long))
+  dir_well : (x : Index) (m : MapState) (needed : List Span) (size range : ℕ) (d : DirectoryChange) (front middle back : List E) → IsMapOf x m → AllByRecursion IsWhole needed → IsPlace x (k.directory x) size range (use_all (space_of m) needed) d → AreWhole k d front middle back
+      → AllByRecursion (λ (s : Span). 112 ≤ s.at) (used_by d) → WriteWell m (use_all (space_of m) needed).length (length_by d (use_all (space_of m) needed).length) (writes_by k d (front ++ (middle ++ back)))
+  dir_well x m needed size range Kept front middle back is all place whole far = absurd place
+  dir_well x m needed size range Patched front middle back is all place whole far = no_well m (use_all (space_of m) needed).length
+  dir_well x m needed size range (New d) front middle back is all place whole far =
+      one_well x m needed (use_all (space_of m) needed).length (directory_span d) (record { place = d.span.at + 32; bytes = data_by k d (front ++ (middle ++ back)) }) is (new_found x m size needed d is all place.1) far.0 refl (omega (arith, whole.1, d.long))
 
   changed_spans : (a : CodeAct C) (ts : List C) → map (span_in k) (changed (act_of a) ts) ≡ map (span_in k) (tiles_before a ts) ++ (new_spans k a ++ map (span_in k) (tiles_behind a ts))
   changed_spans a ts = ap (map (span_in k)) (changed_act a ts) ∙ map-three (span_in k) (tiles_before a ts) (tiles_brought a) (tiles_behind a ts)
@@ -199,50 +208,55 @@ module _ {C E S : Type 0} {k : Kind C E S} (L : Laws k) where
   changed_length : (a : CodeAct C) (ts : List C) → length (tiles_before a ts ++ (tiles_brought a ++ tiles_behind a ts)) ≤ k.most → (length (changed (act_of a) ts) ≤ k.most) × (length (front_entries k a ts ++ (middle_entries k a ts ++ back_entries k a ts)) ≤ k.most)
   changed_length a ts few = (omega (arith, ap (length {A = C}) (changed_act a ts), few), omega (arith, ap (length {A = E}) (entries_after_act k a ts), length-map (changed (act_of a) ts) k.entry, ap (length {A = C}) (changed_act a ts), few))
 
-  pub changes_of : (x : Index) (m : MapState) (a : CodeAct C) (c : Change S) (region : Region) (d : DirectoryChange) (new : EditPlan) → IsMapOf x m → Stages k x m a c region d new → Changes k x m a c region d new
-  changes_of x m a c region d new is st =
-      let marks = act_marks L x m a c region d st.first st.mid st.marks is st.brings st.place st.lists in
+  -- how long the image is once what is brought is there
+  first_long : (x : Index) (m : MapState) (region : Region) (a : CodeAct C) (o : Origin (Change S)) (d : DirectoryChange) (first : EditPlan) → IsMapOf x m → Begins k x m region a o d first → first.length ≡ (space_behind k a o m).length
+  first_long x m region a (edited c) d first is begins = begins.starts.length
+  first_long x m region a returned d first is begins = let o : Origin (Change S) = returned in begins.starts.length ∙ all_within (space_of m) (used_in k a o) (brought_by L x m region a o first.writes.items is begins.brings).ends
+
+  pub changes_of : (x : Index) (m : MapState) (a : CodeAct C) (o : Origin (Change S)) (region : Region) (d : DirectoryChange) (new : EditPlan) → IsMapOf x m → Stages k x m a o region d new → Changes k x m a o region d new
+  changes_of x m a o region d new is st =
+      let marks = act_marks L x m a o region d st.first st.mid st.marks is st.begins.brings st.begins.place st.lists in
       let all : List E = all_entries k a x in
-      let used : used_of new ≡ new_spans k a ++ used_by d = ap (λ v. map span_of v.items) st.used ∙ (marks.listed.used ∙ ap (λ l. l ++ used_by d) st.first_used) in
-      let links : AreInOrder (marks_of k a d x) (new_spans k a ++ used_by d) (freed_by k a d x) (dead_of (all_left k a d x)) m.extents new.links.links = rw (marks.listed.marks_are, used, st.freed, st.is_dead) at st.links in
-      let own : AreOwn (length_after k a d m) k.pointer (new_spans k a ++ used_by d) (kept_of d (k.directory x)) (writes_of region st.first ++ writes_by k d all) (marks_of k a d x)
-      = subst (AreOwn (length_after k a d m) k.pointer (new_spans k a ++ used_by d) (kept_of d (k.directory x)) (writes_of region st.first ++ writes_by k d all)) marks.listed.marks_are marks.own in
+      let used : used_of new ≡ used_in k a o ++ used_by d = ap (λ v. map span_of v.items) st.used ∙ (marks.listed.used ∙ ap (λ l. l ++ used_by d) st.begins.starts.used) in
+      let links : AreInOrder (marks_of k a d x) (used_in k a o ++ used_by d) (freed_by k a d x) (dead_of (all_left k a d x)) m.extents new.links.links = rw (marks.listed.marks_are, used, st.freed, st.is_dead) at st.links in
+      let own : AreOwn (length_after k a o d m) k.pointer (used_in k a o ++ used_by d) (beside_of k a o d x) (writes_of region st.first ++ writes_by k d all) (marks_of k a d x)
+      = subst (AreOwn (length_after k a o d m) k.pointer (used_in k a o ++ used_by d) (beside_of k a o d x) (writes_of region st.first ++ writes_by k d all)) marks.listed.marks_are marks.own in
       let once = λ (q : ℕ). pieces_once marks.parts own new.links.links q links in
       let items = L.left new.change x a d st.change ∙ ap (map k.place) (omitted_act a (k.items x)) in
       record {
         stages = st;
         marks = marks;
         used = used;
-        long = st.length ∙ (marks.listed.length_is ∙ ap (length_by d) st.first_length);
-        staged = subst (λ v. AllByRecursion (λ (w : ℕ × Range). IsPiece region w.1) v.items) (sym st.writes) (marks.listed.staged (brought_staged x m region a c st.first.writes.items st.brings));
+        long = st.length ∙ (marks.listed.length_is ∙ ap (length_by d) (first_long x m region a o d st.first is st.begins));
+        staged = subst (λ v. AllByRecursion (λ (w : ℕ × Range). IsPiece region w.1) v.items) (sym st.writes) (marks.listed.staged (brought_staged x m region a o st.first.writes.items st.begins.brings));
         writes = ap (λ v. bytes_in region v.items) st.writes ∙ marks.listed.writes;
         links = links;
         leaves_items = items;
         leaves = L.left_all new.change x a d st.change ∙ ap (λ l. l ++ left_directory d (k.directory x)) items;
         dir = record {
-          place = st.place;
+          place = st.begins.place;
           parts = marks.parts;
           whole = marks.listed.whole;
           before = marks.brought;
           listing = marks.listing;
           once = once;
-          written = are_written (writes_of region st.first ++ writes_by k d all) (marks_of k a d x) (new_spans k a ++ used_by d) (freed_by k a d x) (dead_of (all_left k a d x)) m.extents new.links.links once links;
+          written = are_written (writes_of region st.first ++ writes_by k d all) (marks_of k a d x) (used_in k a o ++ used_by d) (freed_by k a d x) (dead_of (all_left k a d x)) m.extents new.links.links once links;
           few = (changed_length a (k.items x) st.few).1;
         };
       }
 
   -- the index can be changed
-  can_change : (x : Index) (m : MapState) (a : CodeAct C) (c : Change S) (region : Region) (d : DirectoryChange) (new : EditPlan) → IsMapOf x m → Changes k x m a c region d new → CanChange new.change (extents_after new m.extents) new.length x
-  can_change x m a c region d new is r =
+  can_change : (x : Index) (m : MapState) (a : CodeAct C) (o : Origin (Change S)) (region : Region) (d : DirectoryChange) (new : EditPlan) → IsMapOf x m → Changes k x m a o region d new → CanChange new.change (extents_after new m.extents) new.length x
+  can_change x m a o region d new is r =
       let st = r.stages in
       let ts : List C = k.items x in
-      let used : List Span = new_spans k a ++ used_by d in
+      let used : List Span = used_in k a o ++ used_by d in
       let F : List Span = freed_by k a d x in
       let after : List Span = deleted_after used F m.extents in
-      let top : ℕ = length_after k a d m in
+      let top : ℕ = length_after k a o d m in
       let live' : List Span = live_then a d x in
       let same : live_after new.change x ≡ live' = L.live_then new.change x a d st.change in
-      let small = length_small L x m a d is in
+      let small = length_small L x m a o d is in
       let P : Span → Type 0 = λ s. end_of s ≤ top in
       let inside : AllByRecursion P (header_span x.header ∷ (L.front x ++ (dir_spans x ++ (map (span_in k) ts ++ L.rest x))))
       = subst (AllByRecursion P) (L.live x) (All-weaken (λ s. end_of s ≤ x.length) P (λ s h. omega (arith, h, is.length, small)) (live_of x) x.inside) in
@@ -251,15 +265,17 @@ module _ {C E S : Type 0} {k : Kind C E S} (L : Laws k) where
       let tiles = All-append P (map (span_in k) ts) (L.rest x) behind.1 in
       let first = All-append P (map (span_in k) (tiles_before a ts)) _ (subst (AllByRecursion P) (act_spans (span_in k) a ts) tiles.0) in
       let rest = All-append P (map (span_in k) (tiles_leaving a ts)) (map (span_in k) (tiles_behind a ts)) first.1 in
-      let ends = All-append P (new_spans k a) (used_by d) (All-weaken (IsLong top) P (λ s l. l.ends) used r.marks.parts.used_long) in
+      let ends = All-append P (used_in k a o) (used_by d) (All-weaken (IsLong top) P (λ s l. l.ends) used r.marks.parts.used_long) in
+      let news = All-weaken (IsLong top) P (λ s l. l.ends) (new_spans k a) (brought_long L x m a o d r.marks.parts) in
       let now : AllByRecursion P (map (span_in k) (changed (act_of a) ts))
-      = subst (AllByRecursion P) (sym (changed_spans a ts)) (All-both P (map (span_in k) (tiles_before a ts)) (new_spans k a ++ map (span_in k) (tiles_behind a ts)) first.0 (All-both P (new_spans k a) (map (span_in k) (tiles_behind a ts)) ends.0 rest.1)) in
+      = subst (AllByRecursion P) (sym (changed_spans a ts)) (All-both P (map (span_in k) (tiles_before a ts)) (new_spans k a ++ map (span_in k) (tiles_behind a ts)) first.0 (All-both P (new_spans k a) (map (span_in k) (tiles_behind a ts)) news rest.1)) in
       let rise : AreExtents 0 m.length after = subst (λ l. AreExtents 0 m.length (with_all_freed l (without used m.extents))) (sym r.marks.parts.in_order)
       (freed_stay m.length F _ (used_stay m.length used m.extents r.marks.parts.rise r.marks.parts.takes) r.marks.parts.frees) in
       let once : (q : ℕ) → cover live' q + cover after q ≤ 1 = λ q. omega (
         arith,
         live_changes x a d q,
-        used_apart L x m a d q is r.marks.found,
+        cover-append (new_spans k a) (used_by d) q,
+        used_apart L x m a o d q is r.marks.comes r.marks.found,
         cover-split can_be_used (all_left k a d x) q,
         cover-deleted_after used F m.extents q,
         cover-sorted (usable_of (all_left k a d x)) q,
@@ -286,22 +302,23 @@ module _ {C E S : Type 0} {k : Kind C E S} (L : Laws k) where
       })
 
   -- So it can be carried out.
-  pub plan_of : (x : Index) (m : MapState) (a : CodeAct C) (c : Change S) (region : Region) (d : DirectoryChange) (new : EditPlan) → IsMapOf x m → Changes k x m a c region d new → IsPlan x m region new
-  plan_of x m a c region d new is r =
+  pub plan_of : (x : Index) (m : MapState) (a : CodeAct C) (o : Origin (Change S)) (region : Region) (d : DirectoryChange) (new : EditPlan) → IsMapOf x m → Changes k x m a o region d new → IsPlan x m region new
+  plan_of x m a o region d new is r =
       let st = r.stages in
       let parts = r.marks.parts in
-      let own : AreOwn (length_after k a d m) k.pointer (new_spans k a ++ used_by d) (kept_of d (k.directory x)) (writes_of region st.first ++ writes_by k d (all_entries k a x)) (marks_of k a d x)
-      = subst (AreOwn (length_after k a d m) k.pointer (new_spans k a ++ used_by d) (kept_of d (k.directory x)) (writes_of region st.first ++ writes_by k d (all_entries k a x))) r.marks.listed.marks_are r.marks.own in
-      let far = All-append (λ (s : Span). 112 ≤ s.at) (new_spans k a) (used_by d) (All-weaken (IsLong (length_after k a d m)) (λ s. 112 ≤ s.at) (λ s l. l.far) _ parts.used_long) in
-      let well = both_well m m.length (space_behind k a m).length (length_after k a d m) (writes_of region st.first) (writes_by k d (all_entries k a x)) (brought_well x m region a c st.first.writes.items is st.brings far.0)
-      (dir_well x m (new_spans k a) (size_after k a x) (range_after k a x) d _ _ _ is (brought_found L x m region a c st.first.writes.items is st.brings) st.place r.marks.listed.whole far.1) in
+      let own : AreOwn (length_after k a o d m) k.pointer (used_in k a o ++ used_by d) (beside_of k a o d x) (writes_of region st.first ++ writes_by k d (all_entries k a x)) (marks_of k a d x)
+      = subst (AreOwn (length_after k a o d m) k.pointer (used_in k a o ++ used_by d) (beside_of k a o d x) (writes_of region st.first ++ writes_by k d (all_entries k a x))) r.marks.listed.marks_are r.marks.own in
+      let far = All-append (λ (s : Span). 112 ≤ s.at) (used_in k a o) (used_by d) (All-weaken (IsLong (length_after k a o d m)) (λ s. 112 ≤ s.at) (λ s l. l.far) _ parts.used_long) in
+      let first = All-weaken (IsLong (length_after k a o d m)) (λ s. 112 ≤ s.at) (λ s l. l.far) (new_spans k a) (brought_long L x m a o d parts) in
+      let well = both_well m m.length (space_behind k a o m).length (length_after k a o d m) (writes_of region st.first) (writes_by k d (all_entries k a x)) (brought_well x m region a o st.first.writes.items is st.begins.brings first)
+      (dir_well x m (needed_in k a o) (size_after k a x) (range_after k a x) d _ _ _ is r.marks.comes.whole st.begins.place r.marks.listed.whole far.1) in
       record {
         staged = r.staged;
         free = rw r.writes well.free;
         far = rw r.writes well.far;
         near = rw r.writes well.near;
         reach = omega (arith, r.long, well.last, ap (last_end m.length) r.writes);
-        fits = omega (arith, (length_small L x m a d is).2, well.last, ap (last_end m.length) r.writes);
+        fits = omega (arith, (length_small L x m a o d is).2, well.last, ap (last_end m.length) r.writes);
         rising = links_rise _ new.links.links (can_link parts own).puts r.links;
         within = rw r.long (links_within parts own new.links.links r.links);
         brief = links_brief parts own new.links.links r.links;
@@ -311,9 +328,9 @@ module _ {C E S : Type 0} {k : Kind C E S} (L : Laws k) where
         in_order = rw st.freed parts.in_order;
         freed = st.freed ∙ ap (λ l. sorted span_le (usable_of l)) (sym r.leaves);
         held = st.held ∙ ap usable_of (sym r.leaves_items);
-        apart = λ q. omega (arith, used_apart L x m a d q is r.marks.found, ap (λ l. cover l q) r.used);
-        can = can_change x m a c region d new is r;
+        apart = λ q. omega (arith, used_apart L x m a o d q is r.marks.comes r.marks.found, ap (λ l. cover l q) r.used, cover-append (new_spans k a) (used_by d) q, cover-append (used_in k a o) (used_by d) q, brought_covers L a o q);
+        can = can_change x m a o region d new is r;
       }
 
-  pub is_plan : (x : Index) (m : MapState) (a : CodeAct C) (c : Change S) (region : Region) (d : DirectoryChange) (new : EditPlan) → IsMapOf x m → Stages k x m a c region d new → IsPlan x m region new
-  is_plan x m a c region d new is st = plan_of x m a c region d new is (changes_of x m a c region d new is st)
+  pub is_plan : (x : Index) (m : MapState) (a : CodeAct C) (o : Origin (Change S)) (region : Region) (d : DirectoryChange) (new : EditPlan) → IsMapOf x m → Stages k x m a o region d new → IsPlan x m region new
+  is_plan x m a o region d new is st = plan_of x m a o region d new is (changes_of x m a o region d new is st)

@@ -118,12 +118,12 @@ extents_put pieces ws own after dead es written long long' once =
     all_by (PutsDeleted es pieces) (is_new es) O after (All-weaken (PutsHead pieces) (PutsDeleted es pieces) (λ e h. inr h) N written.puts_new) (covers_own O) long stood
 
 -- The directory of a plan: what becomes of it, what lies before it, and what the plan's pieces are.
-pub record WritesDir {C E S : Type 0} (k : Kind C E S) (x : Index) (was : Option DirItem) (c : DirectoryChange) (front middle back : List E) (space : Space) (n top : ℕ) (used : List Span) (ws own : List Bytes) (freed dead es : List Span) (pieces : List Piece) : Type 0 where
+pub record WritesDir {C E S : Type 0} (k : Kind C E S) (x : Index) (was : Option DirItem) (c : DirectoryChange) (front middle back : List E) (space : Space) (n top : ℕ) (used beside : List Span) (ws own : List Bytes) (freed dead es : List Span) (pieces : List Piece) : Type 0 where
   pub place : IsPlace x was (size_in k (front ++ (middle ++ back))) (entries_len k middle) space c
-  pub parts : AreParts n top (used ++ used_by c) freed dead (kept_of c was) es
+  pub parts : AreParts n top (used ++ used_by c) freed dead (beside ++ kept_of c was) es
   pub whole : AreWhole k c front middle back
-  pub before : OwnMarks top 1 32 ws own used
-  pub listing : OwnMarks top 3 131072 (writes_by k c (front ++ (middle ++ back))) (marks_by k was c front middle back) (pointers_of k.pointer c ++ written_dir c was)
+  pub before : OwnMarks top 1 32 ws own (used ++ beside)
+  pub listing : OwnMarks top 3 65548 (writes_by k c (front ++ (middle ++ back))) (marks_by k was c front middle back) (pointers_of k.pointer c ++ written_dir c was)
   pub once : (q : ℕ) → cover (map piece_span pieces) q ≤ 1
   pub written : AreWritten pieces (ws ++ writes_by k c (front ++ (middle ++ back))) (own ++ marks_by k was c front middle back) (deleted_after (used ++ used_by c) freed es) dead es
   pub few : length (front ++ (middle ++ back)) ≤ k.most
@@ -137,7 +137,7 @@ pub pointer_none : (pointer q : ℕ) (c : DirectoryChange) → (q < pointer) ⊎
 pointer_none pointer q c (inl h) = omega (arith, pointer_of pointer q c, at_place, h)
 pointer_none pointer q c (inr h) = omega (arith, pointer_of pointer q c, at_place, h)
 
-dir_within : (c : DirectoryChange) (old : Option DirItem) (q : ℕ) → cover (written_dir c old) q ≤ cover (used_by c) q + cover (kept_of c old) q
+pub dir_within : (c : DirectoryChange) (old : Option DirItem) (q : ℕ) → cover (written_dir c old) q ≤ cover (used_by c) q + cover (kept_of c old) q
 dir_within Kept old q = omega arith
 dir_within Patched old q = omega arith
 dir_within (New d) old q = omega arith
@@ -154,8 +154,8 @@ pub heads_fewer : (p : Span → Bool) (xs : List Span) (q : ℕ) → cover (map 
 heads_fewer p [] q = omega arith
 heads_fewer p (x ∷ xs) q = elim (cases_Bool (p x)) [ inl e ↦ rw e (omega (arith, heads_fewer p xs q)) | inr e ↦ rw e (omega (arith, heads_fewer p xs q)) ]
 
-module _ {C E S : Type 0} {k : Kind C E S} {x : Index} {was : Option DirItem} {c : DirectoryChange} {front middle back : List E} {space : Space} {n top : ℕ} {used : List Span} {ws own : List Bytes} {freed dead es : List Span} {pieces : List Piece}
-    (L : Laws k) (w : WritesDir k x was c front middle back space n top used ws own freed dead es pieces) where
+module _ {C E S : Type 0} {k : Kind C E S} {x : Index} {was : Option DirItem} {c : DirectoryChange} {front middle back : List E} {space : Space} {n top : ℕ} {used beside : List Span} {ws own : List Bytes} {freed dead es : List Span} {pieces : List Piece}
+    (L : Laws k) (w : WritesDir k x was c front middle back space n top used beside ws own freed dead es pieces) where
   abbrev after : List Span
   after = deleted_after (used ++ used_by c) freed es
 
@@ -169,10 +169,20 @@ module _ {C E S : Type 0} {k : Kind C E S} {x : Index} {was : Option DirItem} {c
   heads_in : (q : ℕ) → (cover (map head (filter (is_new es) after)) q ≤ cover (filter (is_new es) after) q) × (cover (map head dead) q ≤ cover dead q)
   heads_in q = (heads_within (filter (is_new es) after) q (All-filter _ (is_new es) after (is_32 top after w.parts.after_long)), heads_within dead q (is_32 top dead w.parts.dead_long))
 
-  own_covers : (q : ℕ) → (cover (map byte_span wrote) q + cover (map byte_span marked) q ≤ cover used q + (cover (pointers_of k.pointer c) q + cover (written_dir c was) q)) × (cover (used ++ used_by c) q ≡ cover used q + cover (used_by c) q)
+  own_covers : (q : ℕ) → (cover (map byte_span wrote) q + cover (map byte_span marked) q ≤ cover used q + cover beside q + (cover (pointers_of k.pointer c) q + cover (written_dir c was) q))
+      × (cover (used ++ used_by c) q ≡ cover used q + cover (used_by c) q) × (cover (beside ++ kept_of c was) q ≡ cover beside q + cover (kept_of c was) q)
   own_covers q = (
-    omega (arith, both_cover ws (writes_by k c (front ++ (middle ++ back))) q, both_cover own (marks_by k was c front middle back) q, w.before.covers q, w.listing.covers q, cover-append (pointers_of k.pointer c) (written_dir c was) q),
+    omega (
+      arith,
+      both_cover ws (writes_by k c (front ++ (middle ++ back))) q,
+      both_cover own (marks_by k was c front middle back) q,
+      w.before.covers q,
+      w.listing.covers q,
+      cover-append used beside q,
+      cover-append (pointers_of k.pointer c) (written_dir c was) q,
+    ),
     cover-append used (used_by c) q,
+    cover-append beside (kept_of c was) q,
   )
 
   -- of the file header nothing but the pointer is written
@@ -186,7 +196,7 @@ module _ {C E S : Type 0} {k : Kind C E S} {x : Index} {was : Option DirItem} {c
     none,
     dir_within c was q,
     low_none top q (used ++ used_by c) w.parts.used_long low,
-    low_none top q (kept_of c was) w.parts.kept_long low,
+    low_none top q (beside ++ kept_of c was) w.parts.kept_long low,
     low_none top q dead w.parts.dead_long low,
     low_none top q after w.parts.after_long low,
   ))
@@ -202,7 +212,7 @@ module _ {C E S : Type 0} {k : Kind C E S} {x : Index} {was : Option DirItem} {c
   deleted_put = extents_put pieces wrote marked after dead es w.written (is_32 top after w.parts.after_long) (is_32 top dead w.parts.dead_long) dir_apart
 
   -- the pieces lie where a command may write
-  pub dir_writable : (gone news : List Span) (q b : ℕ) → cover (map head gone) q ≡ cover (map head dead) q → cover used q + cover (written_dir c was) q ≤ cover news q → byte_of pieces q ≡ Some b
+  pub dir_writable : (gone news : List Span) (q b : ℕ) → cover (map head gone) q ≡ cover (map head dead) q → cover used q + cover beside q + cover (written_dir c was) q ≤ cover news q → byte_of pieces q ≡ Some b
       → 1 ≤ cover (record { at = 84; len = 16 } ∷ record { at = 104; len = 8 } ∷ (news ++ map head (after ++ gone))) q
   dir_writable gone news q b heads brought put = omega (
     arith,
@@ -305,9 +315,9 @@ ListsItems k pieces (to None) was old new = ⊥
 ListsItems k pieces (to (Some d)) was old new = IsNewDir k pieces d new ⊎ IsPatchedDir k pieces was d old new
 
 module _ {C E S : Type 0} {k : Kind C E S} (L : Laws k) where
-  pub patch_put : {x : Index} (d : DirItem) (front middle back : List E) {space : Space} {n top : ℕ} {used : List Span} {ws own : List Bytes} {freed dead es : List Span} {pieces : List Piece} → WritesDir k x (Some d) Patched front middle back space n top used ws own freed dead es pieces
+  pub patch_put : {x : Index} (d : DirItem) (front middle back : List E) {space : Space} {n top : ℕ} {used beside : List Span} {ws own : List Bytes} {freed dead es : List Span} {pieces : List Piece} → WritesDir k x (Some d) Patched front middle back space n top used beside ws own freed dead es pieces
       → PatchPuts k.head k.len k.bytes pieces (dir_in k (directory_span d) (front ++ (middle ++ back))) front middle
-  patch_put d front middle back {used = used} {ws = ws} {own = own} {freed = freed} {es = es} {pieces = pieces} w =
+  patch_put d front middle back {used = used} {beside = beside} {ws = ws} {own = own} {freed = freed} {es = es} {pieces = pieces} w =
       let all : List E = front ++ (middle ++ back) in
       let bytes : List ℕ = flat_map k.bytes middle in
       let room : 32 + size_in k all ≤ d.span.len = leb-true _ _ (and_parts _ _ w.place).0 in
@@ -327,6 +337,8 @@ module _ {C E S : Type 0} {k : Kind C E S} (L : Laws k) where
           both_cover own (marks_by k (Some d) Patched front middle back) q,
           w.before.covers q,
           cover-append used [] q,
+          cover-append used beside q,
+          cover-append beside (directory_span d ∷ []) q,
           some_cover (d.span.at + 32 + size_in k front) bytes q,
           from,
           heads_in L w q,
@@ -340,8 +352,8 @@ module _ {C E S : Type 0} {k : Kind C E S} (L : Laws k) where
       })
 
   -- A directory as the machine asks for it: it is changed in place, or it is new.
-  pub dir_listed : {x : Index} (was : Option DirItem) (c : DirectoryChange) (front before middle back : List E) {space : Space} {n top : ℕ} {used : List Span} {ws marks : List Bytes} {freed dead es : List Span} {pieces : List Piece} (z : ℤ) (own : Option Directory) (old new : List E)
-      → WritesDir k x was c front middle back space n top used ws marks freed dead es pieces → old ≡ front ++ (before ++ back) → new ≡ front ++ (middle ++ back)
+  pub dir_listed : {x : Index} (was : Option DirItem) (c : DirectoryChange) (front before middle back : List E) {space : Space} {n top : ℕ} {used beside : List Span} {ws marks : List Bytes} {freed dead es : List Span} {pieces : List Piece} (z : ℤ) (own : Option Directory) (old new : List E)
+      → WritesDir k x was c front middle back space n top used beside ws marks freed dead es pieces → old ≡ front ++ (before ++ back) → new ≡ front ++ (middle ++ back)
       → (back ≡ []) ⊎ (sum (map k.len before) ≡ entries_len k middle) → lies_at was ≡ extent_of own → PointsTo k.id z own
       → ListsItems k pieces (directory_set (λ s. dir_in k s (front ++ (middle ++ back))) c was) own old new
   dir_listed was Kept front before middle back z own old new w were are stay lies points = absurd w.place
@@ -397,13 +409,14 @@ module _ {C E S : Type 0} {k : Kind C E S} (L : Laws k) where
       }))
 
   -- the pointer of the file header
-  pub dir_pointer : {x : Index} (was : Option DirItem) (c : DirectoryChange) (front middle back : List E) {space : Space} {n top : ℕ} {used : List Span} {ws marks : List Bytes} {freed dead es : List Span} {pieces : List Piece} (z : ℤ) (own : Option Directory)
-      → WritesDir k x was c front middle back space n top used ws marks freed dead es pieces → lies_at was ≡ extent_of own → PointsTo k.id z own → PutsPointer (λ (d : Directory). d.segment) pieces k.pointer z (directory_set (λ s. dir_in k s (front ++ (middle ++ back))) c was)
+  pub dir_pointer : {x : Index} (was : Option DirItem) (c : DirectoryChange) (front middle back : List E) {space : Space} {n top : ℕ} {used beside : List Span} {ws marks : List Bytes} {freed dead es : List Span} {pieces : List Piece} (z : ℤ) (own : Option Directory)
+      → WritesDir k x was c front middle back space n top used beside ws marks freed dead es pieces → lies_at was ≡ extent_of own → PointsTo k.id z own → PutsPointer (λ (d : Directory). d.segment) pieces k.pointer z (directory_set (λ s. dir_in k s (front ++ (middle ++ back))) c was)
   dir_pointer was Kept front middle back z own w lies points = absurd w.place
   dir_pointer None Patched front middle back z own w lies points = absurd (let clash : false ≡ true = w.place in cc (clash))
   dir_pointer (Some d) Patched front middle back z None w lies points = cc (lies)
-  dir_pointer (Some d) Patched front middle back z (Some own) w lies points =
+  dir_pointer (Some d) Patched front middle back {top = top} {beside = beside} z (Some own) w lies points =
+      let long = All-append (IsLong top) beside (directory_span d ∷ []) w.parts.kept_long in
       let same : directory_span d ≡ extent own.segment = some_span (directory_span d) (extent own.segment) (lies_at (Some d)) (extent_of (Some own)) refl refl lies in
-      (inr (λ q low high. header_clear L w q (omega (arith, high, L.high)) refl, points.0 ∙ ap (λ (s : Span). pos s.at) (sym same)), omega (arith, w.parts.kept_long.0.far), omega (arith, d.ends))
+      (inr (λ q low high. header_clear L w q (omega (arith, high, L.high)) refl, points.0 ∙ ap (λ (s : Span). pos s.at) (sym same)), omega (arith, long.1.0.far), omega (arith, d.ends))
   dir_pointer was (New d) front middle back {top = top} {used = used} z own w lies points =
       let long = All-append (IsLong top) used (directory_span d ∷ []) w.parts.used_long in (inl (listing_put L w).1.0.1, omega (arith, long.1.0.far), omega (arith, d.ends))

@@ -39,7 +39,7 @@ use Rattle.czi_region.specs.declared.block.Region.{Region}
 use Rattle.czi_plan.specs.Directory.{need_of}
 use Rattle.czi_plan.specs.Listing.{IsPlace, fits_in_place}
 use Rattle.czi_plan.specs.Plan.{left_directory, usable_of, used_of, dead_of, left_places, IsPlan, extents_after, left_items}
-use Rattle.czi_plan.specs.Conditions.{IsMapOf, LiesIn}
+use Rattle.czi_plan.specs.Conditions.{IsMapOf, LiesIn, live_of}
 use Rattle.czi_plan.specs.Does.{layout_by, Does}
 use Rattle.czi_plan.specs.declared.plan.EditPlan.{EditPlan}
 use Rattle.czi_plan.proofs.Order.{sorted_again}
@@ -58,16 +58,16 @@ use Rattle.czi_machine.specs.Planned.{Brings as Both, Plans}
 use Rattle.czi_machine.specs.Table.{AreApart, changes, directory_laid, directory_left, fit_brought}
 use Rattle.czi_machine.specs.Writes.{PutsDeleted, PutsPointer, WritesAround, dead, head}
 use Rattle.czi_machine.specs.Written.{Piece, Puts}
-use Rattle.czi_plan.specs.Changing.{Brings, IsNew, IsStaged, Stages, all_left, back_entries, entries_in, front_entries, items_left, middle_entries, new_spans, range_after, size_after, space_behind, tiles_brought}
+use Rattle.czi_plan.specs.Changing.{BringsNew, IsNew, IsStaged, Origin, Stages, all_left, back_entries, beside_in, edited, entries_in, front_entries, items_left, middle_entries, needed_in, new_marks, new_spans, range_after, size_after, space_behind, tiles_brought, used_in}
 use Rattle.czi_plan.specs.Kind.{Kind, span_in}
 use Rattle.czi_plan.proofs.Acts.{act_as, back_stays, brings_past, entries_after_act, entries_before_act, mapped_act, old_entries, omitted_act}
 use Rattle.czi_plan.proofs.Changed.{Changes, changes_of, freed_by, plan_of}
 use Rattle.czi_plan.proofs.Directing.{IsPut, ListsItems, PointsTo, PutsHead, before_put, deleted_put, dir_in, dir_listed, dir_pointer, dir_writable, directory_in_own, header_clear, pointer_none, set_spans}
-use Rattle.czi_plan.proofs.KindLaws.{Laws, live_of}
+use Rattle.czi_plan.proofs.KindLaws.{Laws}
 use Rattle.czi_plan.proofs.Linking.{all_entries, item_long, item_writes, writes_by}
 use Rattle.czi_plan.proofs.Machines.{Machine, brought_images, brought_places, new_dir}
 use Rattle.czi_plan.proofs.Needs.{Asks, IsAct, act_fits, asks, directory_lies, directory_spans_are, is_act, left_by, space_by, space_length, stays_or_new}
-use Rattle.czi_plan.proofs.Parts.{each_of, free_once, length_by, place_spans, spans_split, used_by, written_dir}
+use Rattle.czi_plan.proofs.Parts.{brought_covers, each_of, free_once, length_by, place_spans, spans_split, used_apart, used_by, written_dir}
 use Rattle.czi_image.specs.Holds.{extent_of, lies_at}
 
 -- the live segments but the file header, as the index has them
@@ -133,8 +133,8 @@ item_walked {k = k} x m l s t lies new =
     let walked : (k.place t).walked ≡ (nat_lt (span_in k t).at l.length || walk_goes_on l) = new.walked ∙ (λ j. nat_lt (span_in k t).at (lies.length j) || (round32 (lies.walk_end j) == round32 (lies.length j))) in
     λ j. record { span = span_in k t; walked = sym walked j }
 
-pub fit_act : {C E S : Type 0} (k : Kind C E S) (x : Index) (m : MapState) (l : Layout) (region : Region) (a : CodeAct C) (c : Change S) (writes : List (ℕ × Range)) → LiesAs l x → Brings k x m region a c writes
-    → fit_brought l (space_in m) k.need c ≡ Ok (record { places = act_of (act_as k.place a); back = []; used = new_spans k a; space = space_behind k a m })
+pub fit_act : {C E S : Type 0} (k : Kind C E S) (x : Index) (m : MapState) (l : Layout) (region : Region) (a : CodeAct C) (c : Change S) (writes : List (ℕ × Range)) → LiesAs l x → BringsNew k x m region a c writes
+    → fit_brought l (space_in m) k.need c ≡ Ok (record { places = act_of (act_as k.place a); back = []; used = new_spans k a; space = use_all (space_in m) (new_spans k a) })
 fit_act k x m l region (Out i) c writes lies b = ap (fit_brought l (space_in m) k.need) b.0 ∙ fit_past k.need l (space_in m) i (omit ∷ []) (omit ∷ []) [] (space_in m) refl
 fit_act k x m l region (Put i t) c writes lies b =
     let fits : fit (space_in m) (k.need b.0) ≡ Ok (record { span = (span_in k t); space = use_span (space_in m) (span_in k t) }) = b.2.fits in
@@ -150,7 +150,7 @@ fit_act k x m l region (Into i t) c writes lies b =
     (one ∙ ap (λ (p : Place). Ok (record { places = bring p ∷ []; back = []; used = (span_in k t) ∷ []; space = use_span (space_in m) (span_in k t) })) (item_walked x m l b.0 t lies b.2))
 
 -- what an act brings is what an edit brings
-pub brings_act : {C E S T : Type 0} (k : Kind C E S) (live : C → T) (P : T → S → Type 0) (x : Index) (m : MapState) (region : Region) (a : CodeAct C) (c : Change S) (writes : List (ℕ × Range)) → Brings k x m region a c writes
+pub brings_act : {C E S T : Type 0} (k : Kind C E S) (live : C → T) (P : T → S → Type 0) (x : Index) (m : MapState) (region : Region) (a : CodeAct C) (c : Change S) (writes : List (ℕ × Range)) → BringsNew k x m region a c writes
     → ((s : S) (t : C) → tiles_brought a ≡ t ∷ [] → IsNew k x m s t → IsStaged k region s t writes → P (live t) s) → Both P (mapped live (act_of a)) c
 brings_act {C = C} k live P x m region (Out i) c writes b f = let o : CodeAct C = Out i in subst (Both P (mapped live (act_of o))) (sym b.0) (subst (λ z. Both P z (out i)) (sym (mapped_act live o)) (brings_past P i (omit ∷ []) (omit ∷ []) tt))
 brings_act {C = C} k live P x m region (Put i t) c writes b f =
@@ -250,7 +250,7 @@ left_after c deleted n l x lies apart =
     turns_left (live_places l) _ (gone_places c l) (brought_places c) (live_places (layout_after c deleted n l)) all
     (λ q. omega (arith, apart q, ap (λ ps. cover (spans_of ps) q) (places_are l x lies))) (subst (AllByRecursion (λ (y : Place). 0 < y.span.len)) (sym (places_are l x lies)) (places_some x))
 
-left_list : {C : Type 0} (place : C → Place) (c : List (Act C)) (xs : List C) (ps : List Place) → map place xs ≡ ps → omitted (mapped place c) ps ≡ map place (omitted c xs)
+pub left_list : {C : Type 0} (place : C → Place) (c : List (Act C)) (xs : List C) (ps : List Place) → map place xs ≡ ps → omitted (mapped place c) ps ≡ map place (omitted c xs)
 left_list place c xs ps is = omitted_mapped place c ps ∙ (ap (omitted c) (sym is) ∙ omitted_map place c xs)
 
 left_set : {C : Type 0} (place : C → Place) (c : Setting C) (o : Option C) (p : Option Place) → option_map place o ≡ p → set_omitted (mapped_setting place c) p ≡ option_map place (set_omitted c o)
@@ -367,22 +367,13 @@ new_cover Kept q = refl
 new_cover Patched q = refl
 new_cover (New d) q = refl
 
--- What an act on a list is to the machine.
-module _ {C E S T : Type 0} {k : Kind C E S} {effect : Change S → DocumentEffect} (L : Laws k) (M : Machine T k effect) {image : List ℕ} {live : Live} {s : State} {x : Index} {m : MapState} {a : CodeAct C} {c : Change S} {region : Region} {d : DirectoryChange} {new : EditPlan} (lies : LiesIn image live s x m) (is : IsMapOf x m) (plan : IsPlan x m region new) (r : Changes k x m a c region d new) where
+-- What an act on a list is to the machine, whatever it is of.
+module _ {C E S T : Type 0} {k : Kind C E S} {effect : Change S → DocumentEffect} (L : Laws k) (M : Machine T k effect) {image : List ℕ} {live : Live} {s : State} {x : Index} {m : MapState} {a : CodeAct C} {o : Origin (Change S)} {region : Region} {d : DirectoryChange} {new : EditPlan} (lies : LiesIn image live s x m) (is : IsMapOf x m) (plan : IsPlan x m region new) (r : Changes k x m a o region d new) where
   abbrev ts : List C
   ts = k.items x
 
   abbrev first : EditPlan
   first = r.stages.first
-
-  brings : Brings k x m region a c first.writes.items
-  brings = r.stages.brings
-
-  of_act : IsAct k x m a c
-  of_act = is_act L x m region a c first.writes.items brings
-
-  asked : Asks M x s of_act.act
-  asked = asks L M image live s x m of_act.act lies is (of_act.within (length ts) r.stages.within)
 
   abbrev all : List E
   all = all_entries k a x
@@ -396,30 +387,27 @@ module _ {C E S T : Type 0} {k : Kind C E S} {effect : Change S → DocumentEffe
   abbrev ours : List Bytes
   ours = writes_of region first ++ writes_by k d all
 
-  abbrev pieces : List Piece
+  abbrev pub pieces : List Piece
   pieces = map piece_of (ours ++ new.links.links)
 
-  abbrev here : Bool
+  abbrev pub here : Bool
   here = fits_in_place (k.directory x) size range
 
-  abbrev rest : Space
-  rest = use_all (space_of s) (new_spans k a)
+  abbrev pub rest : Space
+  rest = use_all (space_of s) (needed_in k a o)
 
   -- what becomes of the list, and of its directory
-  abbrev acts : List (Act T)
+  abbrev pub acts : List (Act T)
   acts = mapped M.live (act_of a)
 
-  abbrev entries_then : List E
+  abbrev pub entries_then : List E
   entries_then = map M.entry (changed acts (map M.live ts))
 
-  abbrev dir_then : Setting Directory
+  abbrev pub dir_then : Setting Directory
   dir_then = directory_set (λ z. dir_in k z entries_then) d (k.directory x)
 
-  turned : live_change_of new.change x ≡ M.set_turn dir_then acts
+  pub turned : live_change_of new.change x ≡ M.set_turn dir_then acts
   turned = M.turn new.change x a d r.stages.change
-
-  stays_here : M.stay s (effect c) ≡ here
-  stays_here = ap (λ z. M.stay s (effect z)) of_act.is ∙ (asked.stays ∙ (λ j. fits_in_place (k.directory x) (sym of_act.size j) (sym of_act.range j)))
 
   new_items : brought acts ≡ map M.live (tiles_brought a)
   new_items = brought_images M.live a
@@ -428,7 +416,7 @@ module _ {C E S T : Type 0} {k : Kind C E S} {effect : Change S → DocumentEffe
   live_spans_of [] = refl
   live_spans_of (t ∷ cs) = λ j. (let same : extent (M.segment (M.live t)) ≡ span_in k t = ap extent (M.same_segment t) ∙ (λ i. record { at = L.at t i; len = sym (L.extent t) i }) in same j) ∷ live_spans_of cs j
 
-  new_extents : map (λ t. extent (M.segment t)) (brought acts) ≡ new_spans k a
+  pub new_extents : map (λ t. extent (M.segment t)) (brought acts) ≡ new_spans k a
   new_extents = ap (map (λ t. extent (M.segment t))) new_items ∙ live_spans_of (tiles_brought a)
 
   entries_same : (cs : List C) → map M.entry (map M.live cs) ≡ entries_in k cs
@@ -440,59 +428,22 @@ module _ {C E S T : Type 0} {k : Kind C E S} {effect : Change S → DocumentEffe
       ap (map M.entry) (sym (map-changed M.live M.live (act_of a) ts (each_of (λ t. M.live t ≡ M.live t) (λ t. refl) (kept (act_of a) ts))))
       ∙ (entries_same (changed (act_of a) ts) ∙ entries_after_act k a ts)
 
-  placed_in : IsPlace x (k.directory x) size range rest d
-  placed_in = subst (λ z. IsPlace x (k.directory x) size range (use_all z (new_spans k a)) d) lies.space r.stages.place
+  pub placed_in : IsPlace x (k.directory x) size range rest d
+  placed_in = subst (λ z. IsPlace x (k.directory x) size range (use_all z (needed_in k a o)) d) lies.space r.stages.begins.place
 
-  -- The needs fit, and lie where the plan has them.
-  needs_fit : fit_all (space_of s) (needs_of s (effect c)) ≡ Ok (record { spans = used_of new; space = space_by d rest })
-  needs_fit =
-      let fits = act_fits L M x m of_act.act (new_spans k a) size range d of_act.fits of_act.size of_act.range r.stages.place in
-      (λ j. fit_all (sym lies.space j) (needs_of s (effect (of_act.is j))))
-      ∙ (ap (fit_all (space_in m)) asked.needs ∙ (fits ∙ (λ j. Ok (record { spans = sym r.used j; space = space_by d (use_all (lies.space j) (new_spans k a)) }))))
+  -- the length afterwards, and the extents
+  pub length_there : (space_by d rest).length ≡ new.length
+  length_there = space_length d rest ∙ sym (r.long ∙ ap (λ (z : Space). length_by d (use_all z (needed_in k a o)).length) lies.space)
 
-  lies_in_order : LiesInOrder s (effect c) (live_change_of new.change x) (used_of new)
-  lies_in_order =
-      let there = M.lies s.layout x lies.lies in
-      let own = directory_in_own k entries_then in
-      let make : Span → Directory = λ z. dir_in k z entries_then in
-      let stays = stays_or_new make x (k.directory x) size range (space_behind k a m) d own r.stages.place in
-      let spans : used_by d ≡ directory_spans here dir_then = directory_spans_are make x (k.directory x) size range (space_behind k a m) d own r.stages.place in
-      let both : Both (λ x y. ⊤) acts c = brings_act k M.live (λ x y. ⊤) x m region a c first.writes.items brings (λ s t one new staged. tt) in
-      let ordered = M.order s c dir_then acts both (subst (λ b. StaysOrNew b (M.dir_place s.layout) dir_then) (sym stays_here) (subst (λ o. StaysOrNew here o dir_then) there.1 stays)) in
-      let lie : map (λ t. extent (M.segment t)) (brought acts) ++ directory_spans (M.stay s (effect c)) dir_then ≡ used_of new
-      = (λ j. new_extents j ++ directory_spans (stays_here j) dir_then) ∙ (ap (λ l. new_spans k a ++ l) (sym spans) ∙ sym r.used) in
-      subst (λ z. LiesInOrder s (effect c) z (used_of new)) (sym turned) (subst (LiesInOrder s (effect c) (M.set_turn dir_then acts)) lie ordered)
-
-  -- The layout is the machine's.
-  lays : laid s (edit_asks s (effect c)) ≡ Ok (layout_by new s)
-  lays =
-      let l : Layout = s.layout in
-      let there = M.lies l x lies.lies in
-      let item : Fitted (List (Act Place)) = record { places = act_of (act_as k.place a); back = []; used = new_spans k a; space = rest } in
-      let dir : Fitted (Option Place) = record { places = place_after d (option_map directory_place (k.directory x)); back = []; used = used_by d; space = space_by d rest } in
-      let changing : changes c (length (M.places l)) ≡ true = subst (λ z. changes z (length (M.places l)) ≡ true) (sym of_act.is) asked.changing in
-      let sized : need_of (k.head + sum (map k.len_of (changed c (M.contents s.document)))) ≡ need_of size
-      = ap need_of (ap (λ z. k.head + sum (map k.len_of (changed z (M.contents s.document)))) of_act.is ∙ (asked.size ∙ sym of_act.size)) in
-      let fits : fit_brought l (space_of s) k.need c ≡ Ok item
-      = subst (λ z. fit_brought l z k.need c ≡ Ok (record { places = act_of (act_as k.place a); back = []; used = new_spans k a; space = use_all z (new_spans k a) })) lies.space (fit_act k x m l region a c first.writes.items lies.lies brings) in
-      let dir_is : directory_laid l rest (M.dir_place l) (M.stay s (effect c)) (need_of (k.head + sum (map k.len_of (changed c (M.contents s.document))))) ≡ Ok dir
-      = (λ j. directory_laid l rest (sym there.1 j) (stays_here j) (sized j)) ∙ directory_lies x l (k.directory x) size range rest d (new_walked x l (k.directory x) size range rest d lies.lies placed_in) placed_in in
-      let leaves : omitted c (M.places l) ≡ items_left k a x = (λ j. omitted (of_act.is j) (sym there.0 j)) ∙ (omitted_act of_act.act (map k.place ts) ∙ of_act.leaves) in
-      let left : omitted c (M.places l) ++ directory_left (M.stay s (effect c)) (M.dir_place l) ≡ all_left k a d x
-      = λ j. leaves j ++ ((λ i. directory_left (stays_here i) (sym there.1 i)) ∙ left_by x (k.directory x) size range rest d placed_in) j in
-      let deleted : deleted_after (new_spans k a ++ used_by d) (spans_of (filter can_be_used (omitted c (M.places l) ++ directory_left (M.stay s (effect c)) (M.dir_place l)))) l.deleted ≡ extents_after new l.deleted
-      = (λ j. deleted_after (sym r.used j) (usable_of (left j)) l.deleted)
-      ∙ (ap (λ z. with_all_freed z (without (used_of new) l.deleted)) (sym (sorted_again (usable_of (all_left k a d x)))) ∙ ap (λ (f : List Span). deleted_after (used_of new) f l.deleted) (sym r.stages.freed)) in
-      let long : (space_by d rest).length ≡ new.length = space_length d rest ∙ sym (r.long ∙ ap (λ (z : Space). length_by d (use_all z (new_spans k a)).length) lies.space) in
-      M.row s c item dir (layout_apart l x lies.lies) changing fits dir_is
-      ∙ ((λ j. Ok (M.set_list l (place_after d (there.1 j)) (changed (sym (mapped_act k.place a) j) (M.places l)) (long j) (deleted j))) ∙ ap (λ z. Ok z) (sym (M.layout_is new s a d r.stages.change)))
+  pub deleted_there : (left : List Place) → left ≡ all_left k a d x → deleted_after (used_in k a o ++ used_by d) (spans_of (filter can_be_used left)) s.layout.deleted ≡ extents_after new s.layout.deleted
+  deleted_there left are = (λ j. deleted_after (sym r.used j) (usable_of (are j)) s.layout.deleted)
+      ∙ (ap (λ z. with_all_freed z (without (used_of new) s.layout.deleted)) (sym (sorted_again (usable_of (all_left k a d x)))) ∙ ap (λ (f : List Span). deleted_after (used_of new) f s.layout.deleted) (sym r.stages.freed))
 
   -- What is written is what the machine asks for.
-  apart_places : (q : ℕ) → cover (spans_of (places_of x)) q + cover (spans_of (brought_places new.change)) q ≤ 1
+  pub apart_places : (q : ℕ) → cover (spans_of (places_of x)) q + cover (spans_of (brought_places new.change)) q ≤ 1
   apart_places q = omega (
     arith,
-    plan.apart q,
-    ap (λ l. cover l q) r.used,
+    used_apart L x m a o d q is r.marks.comes r.marks.found,
     cover-append (new_spans k a) (used_by d) q,
     ap (λ l. cover l q) (places_spans x),
     ap (λ l. cover (spans_of l) q) (M.comes new.change a d r.stages.change),
@@ -502,7 +453,7 @@ module _ {C E S T : Type 0} {k : Kind C E S} {effect : Change S → DocumentEffe
   )
 
   -- the items that leave
-  items_leave : not_among (item_spans (items_of (layout_by new s))) (item_places (items_of s.layout)) ≡ left_items new.change x
+  pub items_leave : not_among (item_spans (items_of (layout_by new s))) (item_places (items_of s.layout)) ≡ left_items new.change x
   items_leave = items_leave_after new.change (extents_after new s.layout.deleted) new.length s.layout x lies.lies apart_places
 
   gone_is : dead s.layout (layout_by new s) ≡ dead_of (gone_of new.change x)
@@ -525,23 +476,19 @@ module _ {C E S T : Type 0} {k : Kind C E S} {effect : Change S → DocumentEffe
       subst (λ z. ListsItems k pieces z (M.live_dir live) (map M.entry (M.live_items live)) (map M.entry (changed acts (M.live_items live)))) dir_is
       (dir_listed L (k.directory x) d (front_entries k a ts) (old_entries k a ts) (middle_entries k a ts) (back_entries k a ts) (M.position live) (M.live_dir live) _ _ r.dir were are (back_stays k a ts) dir_at pointed)
 
-  -- a new item is written
-  writes_item : (z : S) (t : C) → tiles_brought a ≡ t ∷ [] → IsNew k x m z t → IsStaged k region z t first.writes.items → M.Brought image pieces (M.live t) z
-  writes_item z t one new' staged =
-      let put = before_put L r.dir in
-      let mark : AllByRecursion (IsPut pieces) (head_mark (k.segment t) ∷ []) = subst (AllByRecursion (IsPut pieces)) (ap (map (λ u. head_mark (k.segment u))) one) put.1 in
-      let write = subst (AllByRecursion (IsPut pieces)) (item_writes region z t first.writes.items staged) put.0 in
-      M.brings image pieces t z staged.padding new'.item new'.used (record { head = mark.0.1; contents = subst (λ n. Puts pieces (n + 32) (k.contents t z staged.padding)) (sym (L.at t)) write.0.1; whole = item_long L region z t first.writes.items staged })
+  -- what is put of what is brought
+  pub heads_put : AllByRecursion (IsPut pieces) (writes_of region first) × AllByRecursion (IsPut pieces) (new_marks k a)
+  heads_put = before_put L r.dir
 
   writes_in : WritesAround live.header (M.set_turn dir_then acts) s.layout (layout_by new s) pieces
   writes_in =
       let extents : m.extents ≡ s.layout.deleted = sym is.extents ∙ lies.lies.deleted in
-      let after : deleted_after (new_spans k a ++ used_by d) (freed_by k a d x) m.extents ≡ (layout_by new s).deleted = λ j. deleted_after (sym r.used j) (sym r.stages.freed j) (extents j) in
+      let after : deleted_after (used_in k a o ++ used_by d) (freed_by k a d x) m.extents ≡ (layout_by new s).deleted = λ j. deleted_after (sym r.used j) (sym r.stages.freed j) (extents j) in
       let heads : (q : ℕ) → cover (map head (dead s.layout (layout_by new s))) q ≡ cover (map head (dead_of (all_left k a d x))) q
       = λ q. ap (λ l. cover (map head l) q) gone_is ∙ (dead_cover new.change x q ∙ ap (λ l. cover (map head (dead_of l)) q) r.leaves) in
       let firsts : map extent (map M.segment (brought acts)) ≡ new_spans k a = map-map M.segment extent (brought acts) ∙ new_extents in
-      let lie : (q : ℕ) → cover (new_spans k a) q + cover (written_dir d (k.directory x)) q ≤ cover (map extent (new_segments (M.set_turn dir_then acts))) q
-      = λ q. omega (arith, M.news dir_then acts q, ap (λ l. cover l q) firsts, ap (λ l. cover l q) (set_spans (λ z. dir_in k z entries_then) d (k.directory x) (directory_in_own k entries_then))) in
+      let lie : (q : ℕ) → cover (used_in k a o) q + cover (beside_in k a o) q + cover (written_dir d (k.directory x)) q ≤ cover (map extent (new_segments (M.set_turn dir_then acts))) q
+      = λ q. omega (arith, brought_covers L a o q, M.news dir_then acts q, ap (λ l. cover l q) firsts, ap (λ l. cover l q) (set_spans (λ z. dir_in k z entries_then) d (k.directory x) (directory_in_own k entries_then))) in
       M.around live s.layout (layout_by new s) dir_then acts pieces
       (subst (PutsPointer (λ (y : Directory). y.segment) pieces k.pointer (M.position live)) dir_is (dir_pointer L (k.directory x) d (front_entries k a ts) (middle_entries k a ts) (back_entries k a ts) (M.position live) (M.live_dir live) r.dir dir_at pointed))
       (λ q low other. header_clear L r.dir q low (pointer_none k.pointer q d other))
@@ -550,17 +497,99 @@ module _ {C E S T : Type 0} {k : Kind C E S} {effect : Change S → DocumentEffe
       (subst (λ (l : List Span). AllByRecursion (PutsDeleted l pieces) (layout_by new s).deleted) extents (subst (AllByRecursion (PutsDeleted m.extents pieces)) after (deleted_put L r.dir)))
       (subst (AllByRecursion (PutsHead pieces)) (sym gone_is) (dead_all (PutsHead pieces) new.change x (subst (λ (l : List Place). AllByRecursion (PutsHead pieces) (dead_of l)) (sym r.leaves) r.dir.written.puts_dead)))
 
-  plans : Plans image s.layout (layout_by new s) live (effect c) (live_change_of new.change x) (pieces_of region new)
-  plans =
+  pub pieces_are : pieces_of region new ≡ pieces
+  pieces_are = ap (λ (l : List Bytes). map piece_of (l ++ new.links.links)) r.writes
+
+  pub plans_of : (c : Change S) → Both (M.Brought image pieces) acts c → Plans image s.layout (layout_by new s) live (effect c) (live_change_of new.change x) (pieces_of region new)
+  plans_of c both =
       subst (λ z. Plans image s.layout (layout_by new s) live (effect c) z (pieces_of region new)) (sym turned)
-      (subst (λ (l : List Bytes). Plans image s.layout (layout_by new s) live (effect c) (M.set_turn dir_then acts) (map piece_of (l ++ new.links.links))) (sym r.writes)
-      (M.plans image live s.layout (layout_by new s) c dir_then acts pieces lists_dir (brings_act k M.live (M.Brought image pieces) x m region a c first.writes.items brings writes_item) writes_in (omega (arith, plan.can.small))))
+      (subst (λ l. Plans image s.layout (layout_by new s) live (effect c) (M.set_turn dir_then acts) l) (sym pieces_are)
+      (M.plans image live s.layout (layout_by new s) c dir_then acts pieces lists_dir both writes_in (omega (arith, plan.can.small))))
+
+-- What an act of an edit is to it.
+module _ {C E S T : Type 0} {k : Kind C E S} {effect : Change S → DocumentEffect} (L : Laws k) (M : Machine T k effect) {image : List ℕ} {live : Live} {s : State} {x : Index} {m : MapState} {a : CodeAct C} {c : Change S} {region : Region} {d : DirectoryChange} {new : EditPlan} (lies : LiesIn image live s x m) (is : IsMapOf x m) (plan : IsPlan x m region new) (r : Changes k x m a (edited c) region d new) where
+  abbrev writes : List (ℕ × Range)
+  writes = r.stages.first.writes.items
+
+  brings : BringsNew k x m region a c writes
+  brings = r.stages.begins.brings
+
+  of_act : IsAct k x m a c
+  of_act = is_act L x m region a c writes brings
+
+  asked : Asks M x s of_act.act
+  asked = asks L M image live s x m of_act.act lies is (of_act.within (length (k.items x)) r.stages.within)
+
+  abbrev remains : Space
+  remains = use_all (space_of s) (new_spans k a)
+
+  stays_here : M.stay s (effect c) ≡ here L M lies is plan r
+  stays_here = ap (λ z. M.stay s (effect z)) of_act.is ∙ (asked.stays ∙ (λ j. fits_in_place (k.directory x) (sym of_act.size j) (sym of_act.range j)))
+
+  -- The needs fit, and lie where the plan has them.
+  needs_fit : fit_all (space_of s) (needs_of s (effect c)) ≡ Ok (record { spans = used_of new; space = space_by d remains })
+  needs_fit =
+      let fits = act_fits L M x m of_act.act (new_spans k a) (size_after k a x) (range_after k a x) d of_act.fits of_act.size of_act.range r.stages.begins.place in
+      (λ j. fit_all (sym lies.space j) (needs_of s (effect (of_act.is j))))
+      ∙ (ap (fit_all (space_in m)) asked.needs ∙ (fits ∙ (λ j. Ok (record { spans = sym r.used j; space = space_by d (use_all (lies.space j) (new_spans k a)) }))))
+
+  lies_in_order : LiesInOrder s (effect c) (live_change_of new.change x) (used_of new)
+  lies_in_order =
+      let then' = dir_then L M lies is plan r in
+      let acts' = acts L M lies is plan r in
+      let entries' = entries_then L M lies is plan r in
+      let there = M.lies s.layout x lies.lies in
+      let own = directory_in_own k entries' in
+      let make : Span → Directory = λ z. dir_in k z entries' in
+      let stays = stays_or_new make x (k.directory x) (size_after k a x) (range_after k a x) (space_behind k a (edited c) m) d own r.stages.begins.place in
+      let spans : used_by d ≡ directory_spans (here L M lies is plan r) then' = directory_spans_are make x (k.directory x) (size_after k a x) (range_after k a x) (space_behind k a (edited c) m) d own r.stages.begins.place in
+      let both : Both (λ x y. ⊤) acts' c = brings_act k M.live (λ x y. ⊤) x m region a c writes brings (λ s t one new staged. tt) in
+      let ordered = M.order s c then' acts' both (subst (λ b. StaysOrNew b (M.dir_place s.layout) then') (sym stays_here) (subst (λ o. StaysOrNew (here L M lies is plan r) o then') there.1 stays)) in
+      let lie : map (λ t. extent (M.segment t)) (brought acts') ++ directory_spans (M.stay s (effect c)) then' ≡ used_of new
+      = (λ j. new_extents L M lies is plan r j ++ directory_spans (stays_here j) then') ∙ (ap (λ l. new_spans k a ++ l) (sym spans) ∙ sym r.used) in
+      subst (λ z. LiesInOrder s (effect c) z (used_of new)) (sym (turned L M lies is plan r)) (subst (LiesInOrder s (effect c) (M.set_turn then' acts')) lie ordered)
+
+  -- The layout is the machine's.
+  lays : laid s (edit_asks s (effect c)) ≡ Ok (layout_by new s)
+  lays =
+      let l : Layout = s.layout in
+      let there = M.lies l x lies.lies in
+      let size = size_after k a x in
+      let range = range_after k a x in
+      let placed' = placed_in L M lies is plan r in
+      let item : Fitted (List (Act Place)) = record { places = act_of (act_as k.place a); back = []; used = new_spans k a; space = remains } in
+      let dir : Fitted (Option Place) = record { places = place_after d (option_map directory_place (k.directory x)); back = []; used = used_by d; space = space_by d remains } in
+      let changing : changes c (length (M.places l)) ≡ true = subst (λ z. changes z (length (M.places l)) ≡ true) (sym of_act.is) asked.changing in
+      let sized : need_of (k.head + sum (map k.len_of (changed c (M.contents s.document)))) ≡ need_of size
+      = ap need_of (ap (λ z. k.head + sum (map k.len_of (changed z (M.contents s.document)))) of_act.is ∙ (asked.size ∙ sym of_act.size)) in
+      let fits : fit_brought l (space_of s) k.need c ≡ Ok item
+      = subst (λ z. fit_brought l z k.need c ≡ Ok (record { places = act_of (act_as k.place a); back = []; used = new_spans k a; space = use_all z (new_spans k a) })) lies.space (fit_act k x m l region a c writes lies.lies brings) in
+      let dir_is : directory_laid l remains (M.dir_place l) (M.stay s (effect c)) (need_of (k.head + sum (map k.len_of (changed c (M.contents s.document))))) ≡ Ok dir
+      = (λ j. directory_laid l remains (sym there.1 j) (stays_here j) (sized j)) ∙ directory_lies x l (k.directory x) size range remains d (new_walked x l (k.directory x) size range remains d lies.lies placed') placed' in
+      let leaves : omitted c (M.places l) ≡ items_left k a x = (λ j. omitted (of_act.is j) (sym there.0 j)) ∙ (omitted_act of_act.act (map k.place (k.items x)) ∙ of_act.leaves) in
+      let left : omitted c (M.places l) ++ directory_left (M.stay s (effect c)) (M.dir_place l) ≡ all_left k a d x
+      = λ j. leaves j ++ ((λ i. directory_left (stays_here i) (sym there.1 i)) ∙ left_by x (k.directory x) size range remains d placed') j in
+      M.row s c item dir (layout_apart l x lies.lies) changing fits dir_is
+      ∙ ((λ j. Ok (M.set_list l (place_after d (there.1 j)) (changed (sym (mapped_act k.place a) j) (M.places l)) (length_there L M lies is plan r j) (deleted_there L M lies is plan r _ left j))) ∙ ap (λ z. Ok z) (sym (M.layout_is new s a d r.stages.change)))
+
+  -- a new item is written
+  writes_item : (z : S) (t : C) → tiles_brought a ≡ t ∷ [] → IsNew k x m z t → IsStaged k region z t writes → M.Brought image (pieces L M lies is plan r) (M.live t) z
+  writes_item z t one new' staged =
+      let ps = pieces L M lies is plan r in
+      let put = heads_put L M lies is plan r in
+      let mark : AllByRecursion (IsPut ps) (head_mark (k.segment t) ∷ []) = subst (AllByRecursion (IsPut ps)) (ap (map (λ u. head_mark (k.segment u))) one) put.1 in
+      let write = subst (AllByRecursion (IsPut ps)) (item_writes region z t writes staged) put.0 in
+      M.brings image ps t z staged.padding new'.item new'.used (record { head = mark.0.1; contents = subst (λ n. Puts ps (n + 32) (k.contents t z staged.padding)) (sym (L.at t)) write.0.1; whole = item_long L region z t writes staged })
+
+  plans : Plans image s.layout (layout_by new s) live (effect c) (live_change_of new.change x) (pieces_of region new)
+  plans = plans_of L M lies is plan r c (brings_act k M.live (M.Brought image (pieces L M lies is plan r)) x m region a c writes brings writes_item)
 
 -- So the plan does what the act is.
-pub does : {C E S T : Type 0} {k : Kind C E S} {effect : Change S → DocumentEffect} (L : Laws k) (M : Machine T k effect) (x : Index) (m : MapState) (a : CodeAct C) (c : Change S) (region : Region) (d : DirectoryChange) (new : EditPlan) → IsMapOf x m → Stages k x m a c region d new → Does x m region new (effect c)
+pub does : {C E S T : Type 0} {k : Kind C E S} {effect : Change S → DocumentEffect} (L : Laws k) (M : Machine T k effect) (x : Index) (m : MapState) (a : CodeAct C) (c : Change S) (region : Region) (d : DirectoryChange) (new : EditPlan) → IsMapOf x m → Stages k x m a (edited c) region d new
+    → Does x m region new (effect c)
 does {k = k} L M x m a c region d new is stages image live s lies =
-    let r = changes_of L x m a c region d new is stages in
-    let plan = plan_of L x m a c region d new is r in
+    let r = changes_of L x m a (edited c) region d new is stages in
+    let plan = plan_of L x m a (edited c) region d new is r in
     record {
       space = space_by d (use_all (space_of s) (new_spans k a));
       fits = needs_fit L M lies is plan r;

@@ -1,6 +1,7 @@
 -- Steps of loops over lists, and entries that are written one behind another.
-use Rattle.std.proofs.Common.{◌≡◌, ℕ, ◌+◌, List, [], ◌∷◌, ◌++◌, map, take, drop, length, sum, refl, ap, ◌∙◌, arith, length-append, append_assoc, suc, ◌<◌, get_or, sym, subst, ◌-◌, ◌≤◌, pos, replicate, append-nil}
+use Rattle.std.proofs.Common.{◌≡◌, ◌==◌, true, false, inl, inr, ℕ, ◌+◌, List, [], ◌∷◌, ◌++◌, map, take, drop, length, sum, refl, ap, ◌∙◌, arith, length-append, append_assoc, suc, ◌<◌, get_or, sym, subst, ◌-◌, ◌≤◌, pos, replicate, append-nil}
 use Rattle.std.proofs.Math.Seq.{drop-append_seam, drop-cons, take-suc, take-append_seam}
+use Rattle.std.proofs.lemmas.Bool.{cases_Bool}
 use Rattle.std.proofs.lemmas.List.{length-map, drop-drop, drop-replicate, length-replicate, length-take-le, map-append, drop_all, take-append-drop}
 use Rattle.std.specs.List.{AllByRecursion, flat_map}
 use Rattle.std.proofs.Math.Numerals.{add-one}
@@ -14,10 +15,10 @@ use Rattle.czi_links.specs.Record.{Bytes}
 use Rattle.czi_machine.proofs.Tiled.{All-both}
 use Rattle.czi_format.specs.Bytes.{i32_bytes, put_at}
 use Rattle.czi_format.specs.Contents.{directory_head}
-use Rattle.czi_plan.specs.Directory.{WritesEntries, directory_size, entries_of, data_in}
+use Rattle.czi_plan.specs.Directory.{WritesEntries, as_long_in, back_in, data_in, directory_size, entries_of, middle_in}
 use Rattle.czi_plan.specs.declared.tiles.Sizes.{Sizes}
 use Rattle.czi_plan.specs.Kind.{Kind}
-use Rattle.czi_plan.specs.Listing.{AreSizes, entries_len, size_in}
+use Rattle.czi_plan.specs.Listing.{AreSizes, entries_len, size_in, sizes_with}
 use Rattle.czi_plan.specs.Marks.{head_mark, patch_marks, pointer_mark}
 
 pub len_both : {E : Type 0} (len : E → ℕ) (es fs : List E) → sum (map len (es ++ fs)) ≡ sum (map len es) + sum (map len fs)
@@ -41,6 +42,19 @@ length-directory = refl
 
 pub entries_length : (tiles : List Tile) → length (entries_of tiles) ≡ length tiles
 entries_length tiles = length-map tiles (λ (t : Tile). (tile_of t).entry)
+
+-- The sizes of parts where entries make room for others: they are those of the three parts, and what is behind counts once.
+pub sizes_are : {C E S : Type 0} (k : Kind C E S) (es come leaving behind : List E) (f b l h : ℕ) → f ≡ size_in k es → b ≡ entries_len k come → l ≡ entries_len k leaving → h ≡ entries_len k behind
+    → AreSizes k (sizes_with f b l h) es (middle_in k.len come leaving behind) (back_in k.len come leaving behind)
+sizes_are k es come leaving behind f b l h fi bi li hi =
+    let same : as_long_in k.len come leaving ≡ (b == l) = ap (λ n. n == sum (map k.len leaving)) (sym bi) ∙ ap (λ n. b == n) (sym li) in
+    elim (cases_Bool (b == l)) [
+      | inl e ↦ let long : as_long_in k.len come leaving ≡ true = same ∙ e in rw long (rw e (record { front_is = fi; middle_is = bi; back_is = hi }))
+      | inr e ↦ let short : as_long_in k.len come leaving ≡ false = same ∙ e in rw short (rw e (record { front_is = fi; middle_is = omega (arith, len_both k.len come behind, bi, hi); back_is = refl }))
+    ]
+
+pub sizes_sum : (f b l h : ℕ) → (sizes_with f b l h).front + (sizes_with f b l h).middle + (sizes_with f b l h).back ≡ f + b + h
+sizes_sum f b l h = elim (cases_Bool (b == l)) [ inl e ↦ rw e refl | inr e ↦ rw e (omega arith) ]
 
 -- the sizes of three parts, summed
 pub sizes_total : {C E S : Type 0} (k : Kind C E S) (s : Sizes) (es fs gs : List E) → AreSizes k s es fs gs → s.front + s.middle + s.back ≡ size_in k (es ++ (fs ++ gs))
@@ -161,3 +175,9 @@ pub split_len : (n : ℕ) (tiles : List Tile) → sum (map entry_len (entries_of
 split_len n tiles =
     sym (sum_both (entries_of (take n tiles)) (entries_of (drop n tiles)))
     ∙ ap (λ es. sum (map entry_len es)) (sym (map-append (λ (t : Tile). (tile_of t).entry) (take n tiles) (drop n tiles)) ∙ ap entries_of (take-append-drop n tiles))
+
+-- entries that fill all bytes
+pub whole_written : (es : List Entry) (end : ℕ) (old new : List ℕ) → WritesEntries es 0 end old new → sum (map entry_len es) ≡ length old → new ≡ flat_map entry_bytes es
+whole_written es end old new w all =
+    let none : drop end old ≡ [] = drop_all end old (omega (arith, w.ends, all)) in
+    w.written ∙ (ap (λ l. flat_map entry_bytes es ++ l) none ∙ append-nil (flat_map entry_bytes es))

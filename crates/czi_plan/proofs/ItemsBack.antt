@@ -11,7 +11,8 @@ use Rattle.czi_seg.specs.declared.header.SegHeader.{SegHeader}
 use Rattle.czi_undo.specs.Stands.{IsAttachment, IsHeld, IsMetadata, IsTile}
 use Rattle.czi_undo.specs.declared.held.HeldSegment.{HeldSegment as CodeHeld}
 use Rattle.czi_undo.proofs.ToldAgain.{header_told, id_long}
-use Rattle.czi_plan.specs.Undoing.{IsOfKind}
+use Rattle.czi_plan.specs.Kind.{IsOfKind}
+use Rattle.czi_plan.specs.Undoing.{IsSoundHeld}
 
 -- the header that was kept is that of the segment
 segment_is : (h : CodeHeld) (head : SegHeader) (s : Segment) (w : Bool) (id : List ℕ) → length id ≡ 16 → IsHeld h s w → IsOfKind id s → h.span.at + h.span.len ≤ 2 ^ 62 → header_at h.head 0 ≡ Some (header_of 0 head) → header_of h.span.at head ≡ s
@@ -21,6 +22,12 @@ segment_is h head s w id long is kind ends reads =
     let again : header_at h.head 0 ≡ Some (record { at = 0; id = s.id; allocated = s.allocated; used = s.used }) = ap (λ z. header_at z 0) is.head ∙ header_told s (ap length kind.0 ∙ long) (omega (arith, len, ends)) (omega (arith, len, ends, kind.1)) in
     let same : header_of 0 head ≡ record { at = 0; id = s.id; allocated = s.allocated; used = s.used } = cc (reads, again) in
     λ i. record { at = at i; id = (ap (λ (z : Segment). z.id) same) i; allocated = (ap (λ (z : Segment). z.allocated) same) i; used = (ap (λ (z : Segment). z.used) same) i }
+
+-- and its id and sizes are sound
+pub own_of : (id : List ℕ) (h : CodeHeld) (head : SegHeader) (at : ℕ) → IsSoundHeld id h → header_at h.head 0 ≡ Some (header_of 0 head) → IsOfKind id (header_of at head)
+own_of id h head at sound reads =
+    let same : sound.segment ≡ header_of 0 head = cc (sound.head, reads) in
+    (ap (λ (z : Segment). z.id) (sym same) ∙ sound.named, omega (arith, sound.sound, ap (λ (z : Segment). z.used) same, ap (λ (z : Segment). z.allocated) same))
 
 pub tile_is : (i new : CodeEntryInfo) (h : CodeHeld) (head : SegHeader) (y : Lain Tile) → info_of new ≡ info_of i → h.span.at + h.span.len ≤ 2 ^ 62 → header_at h.head 0 ≡ Some (header_of 0 head)
     → IsTile i h y → IsOfKind subblock_id y.item.segment → y.item.entry.position ≡ pos y.item.segment.at

@@ -20,13 +20,10 @@ use Rattle.czi_machine.proofs.PatchPieces.{a1s_patch, entries_patch}
 use Rattle.czi_machine.proofs.Patched.{a1_codec, entry_codec, length-written}
 use Rattle.czi_plan.proofs.Order.{at_place}
 use Rattle.czi_machine.specs.Change.{changed, omitted, set, set_omitted}
+use Rattle.czi_plan.specs.Conditions.{live_of}
 use Rattle.czi_plan.specs.Kind.{Kind, of_attachments, of_subblocks, span_in}
 use Rattle.czi_plan.specs.Plan.{left_directory, left_items, left_places}
 use Rattle.czi_plan.proofs.Entries.{length-directory}
-
--- the extents of the live segments of an index
-abbrev pub live_of : Index → List Span
-live_of x = live_spans x.header x.directory x.tiles.items x.attdir x.attachments.items x.metadata
 
 -- the lists of an index can be changed, and are within their limits then
 pub record ListsCanChange (c : CodeChange) (x : Index) : Type 0 where
@@ -40,7 +37,8 @@ pub record Laws {C E S : Type 0} (k : Kind C E S) : Type 1 where
   pub at : (t : C) → (k.segment t).at ≡ (span_in k t).at
   pub extent : (t : C) → (span_in k t).len ≡ 32 + (k.segment t).allocated
   pub ends : (t : C) → end_of (span_in k t) ≤ 2 ^ 62
-  pub item_id : (t : C) (s : S) → k.Says t s → length (k.segment t).id ≡ 16
+  pub item_id : (t : C) (s : S) → k.Says t s → (k.segment t).id ≡ k.item_id
+  pub id_long : length k.item_id ≡ 16
   -- what is live, and what is live after an act
   pub front : Index → List Span
   pub rest : Index → List Span
@@ -83,7 +81,8 @@ tile_laws = record {
   at = λ t. refl;
   extent = λ t. t.extent;
   ends = λ t. t.ends;
-  item_id = λ t s says. ap (length {A = ℕ}) says.id ∙ length-subblock;
+  item_id = λ t s says. says.id;
+  id_long = length-subblock;
   front = λ x. [];
   rest = λ x. option_to_list (option_map directory_span x.attdir) ++ (map att_item_span x.attachments.items ++ option_to_list (option_map meta_item_span x.metadata));
   live = λ x. refl;
@@ -117,7 +116,8 @@ att_laws = record {
   at = λ i. refl;
   extent = λ i. i.extent;
   ends = λ i. i.ends;
-  item_id = λ i a says. ap (length {A = ℕ}) says.id ∙ length-attachment;
+  item_id = λ i a says. says.id;
+  id_long = length-attachment;
   front = λ x. option_to_list (option_map directory_span x.directory) ++ map tile_span x.tiles.items;
   rest = λ x. option_to_list (option_map meta_item_span x.metadata);
   live = λ x. ap (λ l. header_span x.header ∷ l) (sym (append_assoc (option_to_list (option_map directory_span x.directory)) (map tile_span x.tiles.items) _));

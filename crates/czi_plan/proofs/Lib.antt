@@ -7,7 +7,9 @@ pub mod Brief
 pub mod Acts
 pub mod KindLaws
 pub mod Parts
+pub mod Few
 pub mod Linking
+pub mod Marking
 pub mod Changed
 pub mod Directing
 pub mod Machines
@@ -17,4 +19,11 @@ pub mod Brought
 pub mod ActStages
 pub mod Attached
 pub mod Setting
+pub mod Memory
+pub mod Back
 mod ItemsBack
+pub mod Undone
+pub mod MetadataUndone
+pub mod Inverses
+pub mod Fitting
+pub mod Spared

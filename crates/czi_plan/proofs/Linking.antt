@@ -1,7 +1,7 @@
 -- The marks of a directory that lists other entries, and the links of a plan: they have no place in common, end within the length,
 -- and their record fits a slot of the journal.
-use Rattle.std.proofs.Common.{◌≡◌, ℕ, ◌+◌, ◌<◌, ◌≤◌, ◌^◌, List, [], ◌∷◌, ◌++◌, map, drop, get_or, length, refl, ap, sym, ◌∙◌, subst, arith, ◌-◌, ◌*◌, pos, filter, true, false, Bool, Option, Some, None, inl, inr, length-append, append-nil, nat_le}
-use Rattle.std.specs.Prelude.{sum_by}
+use Rattle.std.proofs.Common.{◌≡◌, ℕ, ◌+◌, ◌<◌, ◌≤◌, List, [], ◌∷◌, ◌++◌, map, drop, get_or, length, refl, ap, sym, ◌∙◌, subst, arith, ◌-◌, ◌*◌, pos, filter, true, false, Bool, Option, Some, None, inl, inr, length-append, append-nil, nat_le}
+use Rattle.std.specs.Prelude.{sum_by, vec_len, vec_capacity}
 use Rattle.std.specs.List.{AllByRecursion, flat_map}
 use Rattle.std.specs.List.Sorted.{IsPermutation}
 use Rattle.std.proofs.lemmas.List.Sums.{sum_by-cons, sum_by-append}
@@ -10,7 +10,7 @@ use Rattle.std.proofs.lemmas.Bool.{cases_Bool, cases_lt, and_parts, leb-true}
 use Rattle.std.proofs.lemmas.List.{length-drop, length-map, length-take-le, map-append}
 use Rattle.std.proofs.lemmas.List.Elements.{All-from_recursion}
 use Rattle.czi_format.specs.Segment.{deleted_id, Segment, header_bytes}
-use Rattle.czi_format.specs.Span.{Span, span_le, sorted}
+use Rattle.czi_format.specs.Span.{Span, end_of, span_le, sorted}
 use Rattle.czi_links.specs.Record.{Bytes, AreRising, next_place, end_of as link_end, EndWithin, encoded_len, spell_link}
 use Rattle.czi_machine.specs.Cover.{Chained, between, cover}
 use Rattle.czi_spans.specs.Apart.{first_of}
@@ -23,6 +23,7 @@ use Rattle.czi_image.specs.declared.change.DirectoryChange.TheVariants.{Kept, Pa
 use Rattle.czi_image.specs.declared.index.Index.{Index}
 use Rattle.czi_image.specs.declared.types.DirItem.{DirItem}
 use Rattle.czi_links.proofs.Again.{length-spell_link}
+use Rattle.czi_machine.specs.Places.{can_be_used}
 use Rattle.czi_machine.specs.Writes.{deleted_segment, head}
 use Rattle.czi_machine.specs.Written.{piece_span}
 use Rattle.czi_machine.proofs.Clear.{heads_within}
@@ -32,7 +33,8 @@ use Rattle.czi_num.specs.Span.{span_of}
 use Rattle.czi_region.specs.Pieces.{IsPiece, bytes_put, bytes_of}
 use Rattle.czi_region.specs.declared.block.Piece.{Piece as Range}
 use Rattle.czi_region.specs.declared.block.Region.{Region}
-use Rattle.czi_plan.specs.Marks.{Mark, mark_of, IsSized, byte_span, ArePut, CanPut, AreInOrder, CanLink, IsMarked, deleted_mark, head_mark, is_new, patch_marks, pointer_mark, some_mark, wanted}
+use Rattle.czi_plan.specs.Marks.{AddsMarks, Mark, mark_of, marks_of, bytes_in_mark, AreSized, IsSized, IsThere, byte_span, ArePut, CanHold, CanPut, AreInOrder, CanLink, IsMarked, deleted_mark, head_mark, headers_for, is_new, patch_marks, pointer_mark, some_mark, wanted}
+use Rattle.czi_plan.proofs.Few.{few_touched}
 use Rattle.czi_plan.proofs.Entries.{drop_here, size_in_part}
 use Rattle.czi_plan.proofs.KindLaws.{Laws}
 use Rattle.czi_plan.proofs.Order.{sorted_chained, at_place}
@@ -42,13 +44,13 @@ use Rattle.czi_plan.specs.Listing.{IsPlace, Lists, entries_len, size_in}
 use Rattle.czi_plan.specs.Pieces.{bytes_in, piece_of, writes_of}
 use Rattle.czi_plan.specs.declared.plan.EditPlan.{EditPlan}
 use Rattle.czi_plan.proofs.Brief.{few_marks}
-use Rattle.czi_plan.proofs.Parts.{AreFound, brought_found, directory_found, kept_of, length_after, length_by, parts_of, pointers_of, used_by, written_dir}
+use Rattle.czi_plan.proofs.Parts.{AreBrought, AreFound, beside_of, brought_by, brought_covers, directory_found, kept_of, length_after, length_by, parts_of, pointers_of, used_by, written_dir}
 use Rattle.czi_format.proofs.Local.{All-append}
 use Rattle.czi_image.specs.declared.change.Act.{Act as CodeAct}
 use Rattle.czi_image.specs.declared.change.Act.TheVariants.{Out, Put, Into}
 use Rattle.czi_machine.specs.Change.{Change}
 use Rattle.czi_space.specs.State.{MapState}
-use Rattle.czi_plan.specs.Changing.{Brings, IsNew, IsStaged, all_left, back_entries, front_entries, middle_entries, new_marks, new_spans, range_after, size_after, space_behind}
+use Rattle.czi_plan.specs.Changing.{Brings, BringsNew, IsBack, IsNew, IsStaged, Origin, all_left, back_entries, beside_in, edited, front_entries, middle_entries, needed_in, new_marks, new_spans, range_after, returned, size_after, space_behind, tiles_brought, used_in}
 use Rattle.czi_plan.specs.Conditions.{IsMapOf}
 use Rattle.czi_plan.specs.Plan.{dead_of, usable_of}
 
@@ -57,20 +59,27 @@ unfolding deleted_id
 length-deleted = refl
 
 -- the spans of marks are those of their bytes
-sized_spans : (ms : List Mark) → AllByRecursion IsSized ms → map first_of ms ≡ map byte_span (map mark_of ms)
-sized_spans [] all = refl
-sized_spans (m ∷ ms) all = λ i. record { at = m.0.at; len = all.0 i } ∷ sized_spans ms all.1 i
+sized_spans : (region : Region) (ms : List Mark) → AreSized region ms → map first_of ms ≡ map byte_span (marks_of region ms)
+sized_spans region [] all = refl
+sized_spans region (m ∷ ms) all = λ i. record { at = m.0.at; len = all.0.size i } ∷ sized_spans region ms all.1 i
 
 pub rising_from : (from : ℕ) (bs : List Bytes) → Chained from (map byte_span bs) → AllByRecursion (λ (b : Bytes). 1 ≤ length b.bytes) bs → AreRising from bs
 rising_from from [] chain some = tt
 rising_from from (b ∷ bs) chain some = (chain.0, some.0, rising_from (link_end b) bs chain.1 some.1)
 
 -- marks that were put in order are links
-pub in_order : (ps fs : List Mark) → AllByRecursion IsSized ps → IsPermutation ps fs → map first_of fs ≡ sorted span_le (map first_of ps) → ArePut (map mark_of ps) (map mark_of fs)
-in_order ps fs sized moved sorts = record {
-  moved = IsPermutation-map mark_of ps fs moved;
-  sorts = sym (sized_spans fs (all_moved IsSized ps fs moved sized)) ∙ (sorts ∙ ap (sorted span_le) (sized_spans ps sized));
+pub in_order : (region : Region) (ps fs : List Mark) → AreSized region ps → IsPermutation ps fs → map first_of fs ≡ sorted span_le (map first_of ps) → ArePut (marks_of region ps) (marks_of region fs)
+in_order region ps fs sized moved sorts = record {
+  moved = IsPermutation-map (mark_of region) ps fs moved;
+  sorts = sym (sized_spans region fs (all_moved (IsSized region) ps fs moved sized)) ∙ (sorts ∙ ap (sorted span_le) (sized_spans region ps sized));
 }
+
+-- they have as many bytes
+pub sum_moved : (region : Region) (ps fs : List Mark) → IsPermutation ps fs → sum_by (λ (b : Bytes). length b.bytes) (marks_of region fs) ≡ sum_by (λ (b : Bytes). length b.bytes) (marks_of region ps)
+sum_moved region ps fs moved = sum_by-IsPermutation (λ (b : Bytes). length b.bytes) (marks_of region ps) (marks_of region fs) (IsPermutation-map (mark_of region) ps fs moved)
+
+pub sized_moved : (region : Region) (ps fs : List Mark) → IsPermutation ps fs → AreSized region ps → AreSized region fs
+sized_moved region ps fs moved sized = all_moved (IsSized region) ps fs moved sized
 
 pub links_rise : (ms links : List Bytes) → CanPut ms → ArePut ms links → AreRising 84 links
 links_rise ms links can are =
@@ -78,40 +87,38 @@ links_rise ms links can are =
     let some : AllByRecursion (λ (s : Span). 1 ≤ s.len) (map byte_span ms) = map-All byte_span (λ (s : Span). 1 ≤ s.len) ms can.some in
     rising_from 84 links (subst (Chained 84) (sym are.sorts) (sorted_chained 84 (map byte_span ms) low (All-weaken _ _ (λ s h. omega (arith, h)) _ some) can.once)) (all_moved (λ (b : Bytes). 1 ≤ length b.bytes) ms links are.moved can.some)
 
-sum_marks : (ms : List Mark) → sum_by (λ (m : Mark). length m.1.items) ms ≡ sum_by (λ (b : Bytes). length b.bytes) (map mark_of ms)
-sum_marks [] = refl
-sum_marks (m ∷ ms) = sum_by-cons (λ (x : Mark). length x.1.items) m ms ∙ (ap (λ n. length m.1.items + n) (sum_marks ms) ∙ sym (sum_by-cons (λ (b : Bytes). length b.bytes) (mark_of m) (map mark_of ms)))
-
-pub sum_small : (ps fs : List Mark) → CanPut (map mark_of ps) → IsPermutation ps fs → sum_by (λ (m : Mark). length m.1.items) fs < 2 ^ 63
-sum_small ps fs can moved = omega (arith, sum_by-IsPermutation (λ (m : Mark). length m.1.items) ps fs moved, sum_marks ps, can.few)
-
 -- one more link
 next-append : (from : ℕ) (ls : List Bytes) (l : Bytes) → next_place from (ls ++ l ∷ []) ≡ link_end l
 next-append from [] l = refl
 next-append from (x ∷ ls) l = next-append (link_end x) ls l
 
 -- the first of the marks that are left, and the others
-pub record Left (ms : List Mark) (i from : ℕ) (m : Mark) : Type 0 where
+pub record Left (region : Region) (ms : List Mark) (i from : ℕ) (m : Mark) : Type 0 where
   pub count : length (drop i ms) ≡ 1 + length (drop (i + 1) ms)
-  pub size : sum_by (λ (x : Mark). length x.1.items) (drop i ms) ≡ length m.1.items + sum_by (λ (x : Mark). length x.1.items) (drop (i + 1) ms)
+  pub size : sum_by (λ (b : Bytes). length b.bytes) (marks_of region (drop i ms)) ≡ length (bytes_in_mark region m.1) + sum_by (λ (b : Bytes). length b.bytes) (marks_of region (drop (i + 1) ms))
   pub first : from ≤ m.0.at
-  pub some : 1 ≤ length m.1.items
-  pub rise : AreRising (link_end (mark_of m)) (map mark_of (drop (i + 1) ms))
+  pub some : 1 ≤ length (bytes_in_mark region m.1)
+  pub rise : AreRising (link_end (mark_of region m)) (marks_of region (drop (i + 1) ms))
+  pub there : IsThere region m.1
+  pub sized : AreSized region (drop (i + 1) ms)
 
-pub left_here : (ms : List Mark) (i from : ℕ) (m : Mark) → i < length ms → m ≡ get_or ms i m → AreRising from (map mark_of (drop i ms)) → Left ms i from m
-left_here ms i from m h e rise =
+pub left_here : (region : Region) (ms : List Mark) (i from : ℕ) (m : Mark) → i < length ms → m ≡ get_or ms i m → AreRising from (marks_of region (drop i ms)) → AreSized region (drop i ms) → Left region ms i from m
+left_here region ms i from m h e rise sized =
     let here : drop i ms ≡ m ∷ drop (i + 1) ms = drop_here ms i m h e in
-    let all : AreRising from (map mark_of (m ∷ drop (i + 1) ms)) = subst (λ (l : List Mark). AreRising from (map mark_of l)) here rise in
+    let all : AreRising from (marks_of region (m ∷ drop (i + 1) ms)) = subst (λ (l : List Mark). AreRising from (marks_of region l)) here rise in
+    let are : AreSized region (m ∷ drop (i + 1) ms) = subst (AreSized region) here sized in
     record {
       count = omega (arith, ap length here);
-      size = ap (λ (l : List Mark). sum_by (λ (x : Mark). length x.1.items) l) here ∙ sum_by-cons (λ (x : Mark). length x.1.items) m (drop (i + 1) ms);
+      size = ap (λ (l : List Mark). sum_by (λ (b : Bytes). length b.bytes) (marks_of region l)) here ∙ sum_by-cons (λ (b : Bytes). length b.bytes) (mark_of region m) (marks_of region (drop (i + 1) ms));
       first = all.0;
       some = all.1;
       rise = all.2;
+      there = are.0.there;
+      sized = are.1;
     }
 
-pub rise_on : (ls : List Bytes) (m : Mark) (rest : List Bytes) → AreRising (link_end (mark_of m)) rest → AreRising (next_place 84 (ls ++ mark_of m ∷ [])) rest
-rise_on ls m rest rise = subst (λ n. AreRising n rest) (sym (next-append 84 ls (mark_of m))) rise
+pub rise_on : (region : Region) (ls : List Bytes) (m : Mark) (rest : List Bytes) → AreRising (link_end (mark_of region m)) rest → AreRising (next_place 84 (ls ++ mark_of region m ∷ [])) rest
+rise_on region ls m rest rise = subst (λ n. AreRising n rest) (sym (next-append 84 ls (mark_of region m))) rise
 
 -- What is written before the commit of a directory that lists other entries, and its marks.
 abbrev pub data_by : {C E S : Type 0} → Kind C E S → DirItem → List E → List ℕ
@@ -145,27 +152,34 @@ pub record Has {C E S : Type 0} (k : Kind C E S) (region : Region) (old : Option
   pub used : map span_of q.used.items ≡ map span_of p.used.items ++ used_by c
   pub length_is : q.length ≡ length_by c p.length
   pub whole : AreWhole k c front middle back
-  pub others : q ≡ record p { writes = q.writes; used = q.used; length = q.length }
+  pub others : q ≡ record p { writes = q.writes; used = q.used; length = q.length; marks = q.marks }
 
 -- a plan that stays but for the marks
-has_same : {C E S : Type 0} (k : Kind C E S) (region : Region) (old : Option DirItem) (c : DirectoryChange) (front middle back : List E) (p q : EditPlan) (before after : List Bytes) → length_by c p.length ≡ p.length → writes_by k c (front ++ (middle ++ back)) ≡ [] → used_by c ≡ [] → q ≡ p
+has_same : {C E S : Type 0} (k : Kind C E S) (region : Region) (old : Option DirItem) (c : DirectoryChange) (front middle back : List E) (p q : EditPlan) (before after : List Bytes) → length_by c p.length ≡ p.length → writes_by k c (front ++ (middle ++ back)) ≡ [] → used_by c ≡ [] → q ≡ record p { marks = q.marks }
     → after ≡ before ++ marks_by k old c front middle back → AreWhole k c front middle back → Has k region old c front middle back p q before after
-has_same k region old c front middle back p q before after long none none' same are whole = subst (λ z. Has k region old c front middle back p z before after) (sym same) (record {
+has_same k region old c front middle back p q before after long none none' same are whole = record {
   marks_are = are;
-  writes = sym (ap (λ l. bytes_in region p.writes.items ++ l) none ∙ append-nil (bytes_in region p.writes.items));
-  staged = λ all. all;
-  used = sym (ap (λ l. map span_of p.used.items ++ l) none' ∙ append-nil (map span_of p.used.items));
-  length_is = sym long;
+  writes = ap (λ (z : EditPlan). bytes_in region z.writes.items) same ∙ sym (ap (λ l. bytes_in region p.writes.items ++ l) none ∙ append-nil (bytes_in region p.writes.items));
+  staged = λ all. subst (λ (z : EditPlan). AllByRecursion (λ (w : ℕ × Range). IsPiece region w.1) z.writes.items) (sym same) all;
+  used = ap (λ (z : EditPlan). map span_of z.used.items) same ∙ sym (ap (λ l. map span_of p.used.items ++ l) none' ∙ append-nil (map span_of p.used.items));
+  length_is = ap (λ (z : EditPlan). z.length) same ∙ sym long;
   whole = whole;
-  others = refl;
-})
+  others = others_same;
+}
+  where
+    others_same : q ≡ record p { writes = q.writes; used = q.used; length = q.length; marks = q.marks }
+    others_same = same ∙ (λ i. record p { writes = (sym same i).writes; used = (sym same i).used; length = (sym same i).length; marks = q.marks })
 
 -- how long the bytes of a piece are
 pub piece_length : (region : Region) (piece : Range) → IsPiece region piece → length (bytes_of region piece) ≡ piece.len
 piece_length region piece staged = length-take-le piece.len (drop piece.at (bytes_put region)) (omega (arith, staged, length-drop piece.at (bytes_put region)))
 
+-- nothing changes of it
+kept_same : {p q : EditPlan} → q ≡ p → q ≡ record p { marks = q.marks }
+kept_same {p = p} e = e ∙ (λ i. record p { marks = (sym e i).marks })
+
 pub has_listed : {C E S : Type 0} (k : Kind C E S) (region : Region) (old : Option DirItem) (c : DirectoryChange) (front middle back : List E) (p q : EditPlan) (before after : List Bytes) → Lists k old c front middle back region p q before after → Has k region old c front middle back p q before after
-has_listed k region old Kept front middle back p q before after lists = has_same k region old Kept front middle back p q before after refl refl refl lists.0 (lists.1 ∙ sym (append-nil before)) tt
+has_listed k region old Kept front middle back p q before after lists = has_same k region old Kept front middle back p q before after refl refl refl (kept_same lists.0) (lists.1 ∙ sym (append-nil before)) tt
 has_listed k region None Patched front middle back p q before after lists = absurd lists
 has_listed k region (Some d) Patched front middle back p q before after lists = has_same k region (Some d) Patched front middle back p q before after refl refl refl lists.0 lists.1.marks (lists.1.entries, lists.1.size)
 has_listed k region old (New d) front middle back p q before after lists = record {
@@ -200,7 +214,7 @@ both_marks {top = top} {ws = ws} {ws' = ws'} {own = own} {own' = own'} {s = s} {
   short = omega (arith, sum_by-append (λ (z : Bytes). length z.bytes) own own', a.short, b.short);
 }
 
-no_marks : (top count size : ℕ) → OwnMarks top count size [] [] []
+pub no_marks : (top count size : ℕ) → OwnMarks top count size [] [] []
 no_marks top count size = record { covers = λ q. omega arith; ends = tt; low = tt; some = tt; few = omega arith; short = omega arith }
 
 -- a new item: its data, and its header
@@ -235,6 +249,14 @@ heads_sum : (xs : List Span) → sum_by (λ (b : Bytes). length b.bytes) (map de
 heads_sum [] = refl
 heads_sum (s ∷ xs) = omega (arith, sum_by-cons (λ (b : Bytes). length b.bytes) (deleted_mark s) (map deleted_mark xs), head_long s, heads_sum xs)
 
+-- how many marks, and bytes, headers of DELETED segments are
+pub heads_more : {region : Region} {a b : List Mark} (xs : List Span) → AddsMarks region a b (map deleted_mark xs)
+    → (length b ≡ length a + length xs) × (sum_by (λ (b : Bytes). length b.bytes) (marks_of region b) ≡ sum_by (λ (b : Bytes). length b.bytes) (marks_of region a) + 32 * length xs)
+heads_more {region = region} {a = a} {b = b} xs adds = (
+  omega (arith, ap (length {A = Bytes}) adds.links_are, length-append (marks_of region a) (map deleted_mark xs), length-map b (mark_of region), length-map a (mark_of region), length-map xs deleted_mark),
+  omega (arith, ap (sum_by (λ (b : Bytes). length b.bytes)) adds.links_are, sum_by-append (λ (b : Bytes). length b.bytes) (marks_of region a) (map deleted_mark xs), heads_sum xs),
+)
+
 pub wanted_cover : (own : List Bytes) (used freed dead es : List Span) (q : ℕ)
     → cover (map byte_span (wanted own used freed dead es)) q ≡ cover (map byte_span own) q + (cover (map head (filter (is_new es) (deleted_after used freed es))) q + cover (map head dead) q)
 wanted_cover own used freed dead es q =
@@ -268,11 +290,17 @@ spelled : (ls : List Bytes) → length (flat_map spell_link ls) ≡ 12 * length 
 spelled [] = refl
 spelled (l ∷ ls) = omega (arith, length-append (spell_link l) (flat_map spell_link ls), length-spell_link l, spelled ls, sum_by-cons (λ (b : Bytes). length b.bytes) l ls)
 
+-- Marks of a number and a size, and how many headers of DELETED segments come with them at most.
+pub record FewLinks (count size most : ℕ) (own : List Bytes) (used freed dead : List Span) : Type 0 where
+  pub few : length own ≤ count
+  pub short : sum_by (λ (b : Bytes). length b.bytes) own ≤ size
+  pub headers : headers_for used freed dead ≤ most
+
 -- Writes and marks that lie in the pointers of the file header, in what is used, and in what is changed in place.
 pub record AreOwn (top pointer : ℕ) (used kept : List Span) (ws own : List Bytes) : Type 0 where
   pub high : pointer + 8 ≤ 112
   pub spans : List Span
-  pub marks : OwnMarks top 4 131104 ws own spans
+  pub marks : OwnMarks top 4 65580 ws own spans
   pub within : (q : ℕ) → cover spans q ≤ between pointer (pointer + 8) q + (cover used q + cover kept q)
 
 -- the links of a plan
@@ -288,7 +316,7 @@ module _ {n top pointer : ℕ} {used freed dead kept es : List Span} {ws mine : 
       All-both P mine _ of_mine (All-both P (map deleted_mark news) (map deleted_mark dead) (map-All deleted_mark P news (All-weaken (IsLong top) _ of_head news (All-filter (IsLong top) (is_new es) _ parts.after_long)))
       (map-All deleted_mark P dead (All-weaken (IsLong top) _ of_head dead parts.dead_long)))
 
-  sizes : (sum_by (λ (b : Bytes). length b.bytes) all ≤ 131104 + 32 * 6) × (length all ≤ 10)
+  sizes : (sum_by (λ (b : Bytes). length b.bytes) all ≤ 65580 + 32 * 6) × (length all ≤ 10)
   sizes = (
     omega (
       arith,
@@ -331,6 +359,7 @@ module _ {n top pointer : ℕ} {used freed dead kept es : List Span} {ws mine : 
         frees = parts.frees;
         long = All-weaken (IsLong top) IsMarked marked _ parts.after_long;
         long_dead = All-weaken (IsLong top) IsMarked marked dead parts.dead_long;
+        touched = few_touched n top used freed dead kept es parts;
         puts = record {
           low = each (λ (b : Bytes). 84 ≤ b.place) own.marks.low (λ s l. omega (arith, l.far));
           some = each (λ (b : Bytes). 1 ≤ length b.bytes) own.marks.some (λ s l. omega (arith, head_long s));
@@ -338,6 +367,10 @@ module _ {n top pointer : ℕ} {used freed dead kept es : List Span} {ws mine : 
           few = omega (arith, sizes.0);
         };
       }
+
+  -- and there are few of them
+  pub few_links : FewLinks 4 65580 6 mine used freed dead
+  few_links = record { few = own.marks.few; short = own.marks.short; headers = parts.few }
 
   pub links_within : (links : List Bytes) → AreInOrder mine used freed dead es links → EndWithin top links
   links_within links are =
@@ -350,45 +383,67 @@ module _ {n top pointer : ℕ} {used freed dead kept es : List Span} {ws mine : 
   pieces_once links q are = omega (arith, ap (λ l. cover l q) (spans_are (ws ++ links)), both_cover ws links q, ap (λ l. cover l q) are.sorts, cover-sorted (map byte_span all) q, marks_once q)
 
 -- The marks of an act: those of what it brings, and those of the directory.
-pub record ActMarks {C E S : Type 0} (k : Kind C E S) (x : Index) (m : MapState) (a : CodeAct C) (region : Region) (d : DirectoryChange) (first mid : EditPlan) (marks : List Bytes) : Type 0 where
-  pub found : AreFound m.length m.held m.extents (new_spans k a ++ used_by d)
+pub record ActMarks {C E S : Type 0} (k : Kind C E S) (x : Index) (m : MapState) (a : CodeAct C) (o : Origin (Change S)) (region : Region) (d : DirectoryChange) (first mid : EditPlan) (marks : List Bytes) : Type 0 where
+  pub comes : AreBrought x m (used_in k a o) (beside_in k a o) (needed_in k a o)
+  pub found : AreFound m.length m.extents (used_in k a o ++ used_by d)
   pub listed : Has k region (k.directory x) d (front_entries k a (k.items x)) (middle_entries k a (k.items x)) (back_entries k a (k.items x)) first mid (new_marks k a) marks
-  pub brought : OwnMarks (length_after k a d m) 1 32 (writes_of region first) (new_marks k a) (new_spans k a)
-  pub listing : OwnMarks (length_after k a d m) 3 131072 (writes_by k d (all_entries k a x)) (marks_by k (k.directory x) d (front_entries k a (k.items x)) (middle_entries k a (k.items x)) (back_entries k a (k.items x))) (pointers_of k.pointer d ++ written_dir d (k.directory x))
-  pub parts : AreParts m.length (length_after k a d m) (new_spans k a ++ used_by d) (sorted span_le (usable_of (all_left k a d x))) (dead_of (all_left k a d x)) (kept_of d (k.directory x)) m.extents
-  pub own : AreOwn (length_after k a d m) k.pointer (new_spans k a ++ used_by d) (kept_of d (k.directory x)) (writes_of region first ++ writes_by k d (all_entries k a x)) marks
+  pub brought : OwnMarks (length_after k a o d m) 1 32 (writes_of region first) (new_marks k a) (used_in k a o ++ beside_in k a o)
+  pub listing : OwnMarks (length_after k a o d m) 3 65548 (writes_by k d (all_entries k a x)) (marks_by k (k.directory x) d (front_entries k a (k.items x)) (middle_entries k a (k.items x)) (back_entries k a (k.items x))) (pointers_of k.pointer d ++ written_dir d (k.directory x))
+  pub parts : AreParts m.length (length_after k a o d m) (used_in k a o ++ used_by d) (sorted span_le (usable_of (all_left k a d x))) (dead_of (all_left k a d x)) (beside_of k a o d x) m.extents
+  pub own : AreOwn (length_after k a o d m) k.pointer (used_in k a o ++ used_by d) (beside_of k a o d x) (writes_of region first ++ writes_by k d (all_entries k a x)) marks
 
 -- What is written of an act on either list, and its marks.
 module _ {C E S : Type 0} {k : Kind C E S} (L : Laws k) where
   pub item_long : (region : Region) (s : S) (t : C) (writes : List (ℕ × Range)) (staged : IsStaged k region s t writes) → length (k.contents t s staged.padding) ≡ (k.segment t).allocated
   item_long region s t writes staged = omega (arith, ap (length {A = ℕ}) staged.bytes, piece_length region staged.piece staged.staged, staged.long, L.extent t)
 
-  item_marks : (x : Index) (m : MapState) (region : Region) (s : S) (t : C) (writes : List (ℕ × Range)) (top : ℕ) → IsNew k x m s t → IsStaged k region s t writes → IsLong top (span_in k t)
-      → OwnMarks top 1 32 (bytes_in region writes) (head_mark (k.segment t) ∷ []) (span_in k t ∷ [])
-  item_marks x m region s t writes top new staged long =
-      let is : length (header_bytes (k.segment t)) ≡ 32 = header_length (k.segment t) (L.item_id t s new.item) in
-      let data' = item_long region s t writes staged in
+  -- the header of an item, and its data where some are written
+  head_marks : (ws : List Bytes) (t : C) (top : ℕ) → (k.segment t).id ≡ k.item_id → IsLong top (span_in k t) → ((q : ℕ) → cover (map byte_span ws) q + between (span_in k t).at ((span_in k t).at + 32) q ≤ between (span_in k t).at (end_of (span_in k t)) q)
+      → OwnMarks top 1 32 ws (head_mark (k.segment t) ∷ []) (span_in k t ∷ [])
+  head_marks ws t top id long within =
+      let is : length (header_bytes (k.segment t)) ≡ 32 = header_length (k.segment t) (ap (length {A = ℕ}) id ∙ L.id_long) in
       let far = long.far in
-      let within = long.ends in
-      rw (item_writes region s t writes staged) (record {
-        covers = λ q. omega (arith, at_place, is, data', L.extent t, L.at t);
-        ends = (omega (arith, is, within, L.extent t, L.at t), tt);
+      let ends = long.ends in
+      record {
+        covers = λ q. omega (arith, at_place, is, L.at t, within q);
+        ends = (omega (arith, is, ends, long.long, L.at t), tt);
         low = (omega (arith, far, L.at t), tt);
         some = (omega (arith, is), tt);
         few = omega arith;
         short = omega (arith, sum_by-cons (λ (b : Bytes). length b.bytes) (head_mark (k.segment t)) [], is);
-      })
+      }
 
-  pub brought_marks : (x : Index) (m : MapState) (region : Region) (a : CodeAct C) (c : Change S) (writes : List (ℕ × Range)) (top : ℕ) → Brings k x m region a c writes → AllByRecursion (IsLong top) (new_spans k a)
+  item_marks : (x : Index) (m : MapState) (region : Region) (s : S) (t : C) (writes : List (ℕ × Range)) (top : ℕ) → IsNew k x m s t → IsStaged k region s t writes → IsLong top (span_in k t)
+      → OwnMarks top 1 32 (bytes_in region writes) (head_mark (k.segment t) ∷ []) (span_in k t ∷ [])
+  item_marks x m region s t writes top new staged long =
+      let data' = item_long region s t writes staged in
+      rw (item_writes region s t writes staged) (head_marks (record { place = (span_in k t).at + 32; bytes = k.contents t s staged.padding } ∷ []) t top (L.item_id t s new.item) long (λ q. omega (arith, at_place, data', L.extent t)))
+
+  new_marked : (x : Index) (m : MapState) (region : Region) (a : CodeAct C) (c : Change S) (writes : List (ℕ × Range)) (top : ℕ) → BringsNew k x m region a c writes → AllByRecursion (IsLong top) (new_spans k a)
       → OwnMarks top 1 32 (bytes_in region writes) (new_marks k a) (new_spans k a)
-  brought_marks x m region (Out i) c writes top b long = subst (λ w. OwnMarks top 1 32 (bytes_in region w) [] []) (sym b.1) (no_marks top 1 32)
-  brought_marks x m region (Put i t) c writes top b long = item_marks x m region b.0 t writes top b.2 b.3 long.0
-  brought_marks x m region (Into i t) c writes top b long = item_marks x m region b.0 t writes top b.2 b.3 long.0
+  new_marked x m region (Out i) c writes top b long = subst (λ w. OwnMarks top 1 32 (bytes_in region w) [] []) (sym b.1) (no_marks top 1 32)
+  new_marked x m region (Put i t) c writes top b long = item_marks x m region b.0 t writes top b.2 b.3 long.0
+  new_marked x m region (Into i t) c writes top b long = item_marks x m region b.0 t writes top b.2 b.3 long.0
+
+  back_marked : (x : Index) (m : MapState) (a : CodeAct C) (top : ℕ) → AllByRecursion (IsBack k x m) (tiles_brought a) → AllByRecursion (IsLong top) (new_spans k a) → OwnMarks top 1 32 [] (new_marks k a) (new_spans k a)
+  back_marked x m (Out i) top b long = no_marks top 1 32
+  back_marked x m (Put i t) top b long = head_marks [] t top b.0.0.0 long.0 (λ q. omega (arith, at_place, L.extent t))
+  back_marked x m (Into i t) top b long = head_marks [] t top b.0.0.0 long.0 (λ q. omega (arith, at_place, L.extent t))
+
+  pub brought_marks : (x : Index) (m : MapState) (region : Region) (a : CodeAct C) (o : Origin (Change S)) (writes : List (ℕ × Range)) (top : ℕ) → Brings k x m region a o writes → AllByRecursion (IsLong top) (new_spans k a)
+      → OwnMarks top 1 32 (bytes_in region writes) (new_marks k a) (used_in k a o ++ beside_in k a o)
+  brought_marks x m region a o writes top b long =
+      let its = by o b in
+      record { covers = λ q. omega (arith, its.covers q, brought_covers L a o q, cover-append (used_in k a o) (beside_in k a o) q); ends = its.ends; low = its.low; some = its.some; few = its.few; short = its.short }
+    where
+      by : (o : Origin (Change S)) → Brings k x m region a o writes → OwnMarks top 1 32 (bytes_in region writes) (new_marks k a) (new_spans k a)
+      by (edited c) b = new_marked x m region a c writes top b long
+      by returned b = subst (λ w. OwnMarks top 1 32 (bytes_in region w) (new_marks k a) (new_spans k a)) (sym b.1) (back_marked x m a top b.0 long)
 
   -- a directory: its data, its header and the pointer to it, or what of it is changed in place
   pub dir_marks : (x : Index) (old : Option DirItem) (c : DirectoryChange) (front middle back : List E) (space : Space) (top : ℕ) → AllByRecursion (IsLong top) (used_by c) → AllByRecursion (IsLong top) (kept_of c old)
       → IsPlace x old (size_in k (front ++ (middle ++ back))) (entries_len k middle) space c → AreWhole k c front middle back
-      → OwnMarks top 3 131072 (writes_by k c (front ++ (middle ++ back))) (marks_by k old c front middle back) (pointers_of k.pointer c ++ written_dir c old)
+      → OwnMarks top 3 65548 (writes_by k c (front ++ (middle ++ back))) (marks_by k old c front middle back) (pointers_of k.pointer c ++ written_dir c old)
   dir_marks x old Kept front middle back space top used kept place whole = absurd place
   dir_marks x None Patched front middle back space top used kept place whole = absurd (let clash : false ≡ true = place in cc (clash))
   dir_marks x (Some d) Patched front middle back space top used kept place whole =
@@ -426,29 +481,50 @@ module _ {C E S : Type 0} {k : Kind C E S} (L : Laws k) where
         short = omega (arith, sum_by-cons (λ (b : Bytes). length b.bytes) (pointer_mark k.pointer d.span.at) (two ∷ []), sum_by-cons (λ (b : Bytes). length b.bytes) two [], long);
       }
 
-  own_within : (u : List Span) (c : DirectoryChange) (old : Option DirItem) (q : ℕ) → cover (u ++ (pointers_of k.pointer c ++ written_dir c old)) q ≤ between k.pointer (k.pointer + 8) q + (cover (u ++ used_by c) q + cover (kept_of c old) q)
-  own_within u c old q = omega (arith, cover-append u (pointers_of k.pointer c ++ written_dir c old) q, cover-append u (used_by c) q, by c)
+  own_within : (used beside : List Span) (c : DirectoryChange) (old : Option DirItem) (q : ℕ)
+      → cover ((used ++ beside) ++ (pointers_of k.pointer c ++ written_dir c old)) q ≤ between k.pointer (k.pointer + 8) q + (cover (used ++ used_by c) q + cover (beside ++ kept_of c old) q)
+  own_within used beside c old q = omega (arith, cover-append (used ++ beside) (pointers_of k.pointer c ++ written_dir c old) q, cover-append used beside q, cover-append used (used_by c) q, cover-append beside (kept_of c old) q, by c)
     where
       by : (c : DirectoryChange) → cover (pointers_of k.pointer c ++ written_dir c old) q ≤ between k.pointer (k.pointer + 8) q + (cover (used_by c) q + cover (kept_of c old) q)
       by Kept = omega arith
       by Patched = omega arith
       by (New d) = omega arith
 
-  pub act_marks : (x : Index) (m : MapState) (a : CodeAct C) (c : Change S) (region : Region) (d : DirectoryChange) (first mid : EditPlan) (marks : List Bytes) → IsMapOf x m → Brings k x m region a c first.writes.items
-      → IsPlace x (k.directory x) (size_after k a x) (range_after k a x) (space_behind k a m) d → Lists k (k.directory x) d (front_entries k a (k.items x)) (middle_entries k a (k.items x)) (back_entries k a (k.items x)) region first mid (new_marks k a) marks
-      → ActMarks k x m a region d first mid marks
-  act_marks x m a c region d first mid marks is brings place lists =
-      let top : ℕ = length_after k a d m in
+  -- what an act brings lies behind the front of the file header
+  pub brought_long : (x : Index) (m : MapState) (a : CodeAct C) (o : Origin (Change S)) (d : DirectoryChange) {n top : ℕ} {freed dead es : List Span} → AreParts n top (used_in k a o ++ used_by d) freed dead (beside_of k a o d x) es → AllByRecursion (IsLong top) (new_spans k a)
+  brought_long x m a o d {top = top} parts = by o (All-append (IsLong top) (used_in k a o) (used_by d) parts.used_long).0 (All-append (IsLong top) (beside_in k a o) (kept_of d (k.directory x)) parts.kept_long).0
+    where
+      back : (ts : List C) → AllByRecursion (IsLong top) (usable_of (map k.place ts)) → AllByRecursion (IsLong top) (dead_of (map k.place ts)) → AllByRecursion (IsLong top) (map (span_in k) ts)
+      back [] used beside = tt
+      back (t ∷ ts) used beside = elim (cases_Bool (can_be_used (k.place t))) [
+        | inl e ↦ (let here = rw e at used in here.0, back ts (let here = rw e at used in here.1) (rw e at beside))
+        | inr e ↦ (let here = rw e at beside in here.0, back ts (rw e at used) (let here = rw e at beside in here.1))
+      ]
+
+      by : (o : Origin (Change S)) → AllByRecursion (IsLong top) (used_in k a o) → AllByRecursion (IsLong top) (beside_in k a o) → AllByRecursion (IsLong top) (new_spans k a)
+      by (edited c) used beside = used
+      by returned used beside = back (tiles_brought a) used beside
+
+  pub act_marks : (x : Index) (m : MapState) (a : CodeAct C) (o : Origin (Change S)) (region : Region) (d : DirectoryChange) (first mid : EditPlan) (marks : List Bytes) → IsMapOf x m → Brings k x m region a o first.writes.items
+      → IsPlace x (k.directory x) (size_after k a x) (range_after k a x) (space_behind k a o m) d → Lists k (k.directory x) d (front_entries k a (k.items x)) (middle_entries k a (k.items x)) (back_entries k a (k.items x)) region first mid (new_marks k a) marks
+      → ActMarks k x m a o region d first mid marks
+  act_marks x m a o region d first mid marks is brings place lists =
+      let top : ℕ = length_after k a o d m in
       let front : List E = front_entries k a (k.items x) in
       let middle : List E = middle_entries k a (k.items x) in
       let back : List E = back_entries k a (k.items x) in
-      let found = directory_found x m (k.directory x) (size_after k a x) (range_after k a x) (new_spans k a) d is (brought_found L x m region a c first.writes.items is brings) place in
+      let used : List Span = used_in k a o in
+      let beside : List Span = beside_in k a o in
+      let comes = brought_by L x m region a o first.writes.items is brings in
+      let found = directory_found x m (k.directory x) (size_after k a x) (range_after k a x) used beside (needed_in k a o) d is comes place in
       let has = has_listed k region (k.directory x) d front middle back first mid (new_marks k a) marks lists in
-      let parts = parts_of L x m a d is found in
-      let long = All-append (IsLong top) (new_spans k a) (used_by d) parts.used_long in
-      let brought = brought_marks x m region a c first.writes.items top brings long.0 in
-      let listing = dir_marks x (k.directory x) d front middle back (space_behind k a m) top long.1 parts.kept_long place has.whole in
+      let parts = parts_of L x m a o d is comes found in
+      let long = (All-append (IsLong top) used (used_by d) parts.used_long).1 in
+      let kept = (All-append (IsLong top) beside (kept_of d (k.directory x)) parts.kept_long).1 in
+      let brought = brought_marks x m region a o first.writes.items top brings (brought_long x m a o d parts) in
+      let listing = dir_marks x (k.directory x) d front middle back (space_behind k a o m) top long kept place has.whole in
       record {
+        comes = comes;
         found = found;
         listed = has;
         brought = brought;
@@ -456,17 +532,40 @@ module _ {C E S : Type 0} {k : Kind C E S} (L : Laws k) where
         parts = parts;
         own = record {
           high = L.high;
-          spans = new_spans k a ++ (pointers_of k.pointer d ++ written_dir d (k.directory x));
-          marks = subst (λ l. OwnMarks top 4 131104 (writes_of region first ++ writes_by k d (all_entries k a x)) l (new_spans k a ++ (pointers_of k.pointer d ++ written_dir d (k.directory x)))) (sym has.marks_are) (both_marks brought listing);
-          within = own_within (new_spans k a) d (k.directory x);
+          spans = (used ++ beside) ++ (pointers_of k.pointer d ++ written_dir d (k.directory x));
+          marks = subst (λ l. OwnMarks top 4 65580 (writes_of region first ++ writes_by k d (all_entries k a x)) l ((used ++ beside) ++ (pointers_of k.pointer d ++ written_dir d (k.directory x)))) (sym has.marks_are) (both_marks brought listing);
+          within = own_within used beside d (k.directory x);
         };
       }
 
   -- So the links of an act can be put.
-  pub act_links : (x : Index) (m : MapState) (a : CodeAct C) (c : Change S) (region : Region) (d : DirectoryChange) (first mid : EditPlan) (marks : List Bytes) → IsMapOf x m → Brings k x m region a c first.writes.items
-      → map span_of first.used.items ≡ new_spans k a → IsPlace x (k.directory x) (size_after k a x) (range_after k a x) (space_behind k a m) d
+  pub act_links : (x : Index) (m : MapState) (a : CodeAct C) (o : Origin (Change S)) (region : Region) (d : DirectoryChange) (first mid : EditPlan) (marks : List Bytes) → IsMapOf x m → Brings k x m region a o first.writes.items
+      → map span_of first.used.items ≡ used_in k a o → IsPlace x (k.directory x) (size_after k a x) (range_after k a x) (space_behind k a o m) d
       → Lists k (k.directory x) d (front_entries k a (k.items x)) (middle_entries k a (k.items x)) (back_entries k a (k.items x)) region first mid (new_marks k a) marks
       → CanLink m.length (map span_of mid.used.items) (sorted span_le (usable_of (all_left k a d x))) (dead_of (all_left k a d x)) m.extents marks
-  act_links x m a c region d first mid marks is brings used place lists =
-      let has = act_marks x m a c region d first mid marks is brings place lists in
+  act_links x m a o region d first mid marks is brings used place lists =
+      let has = act_marks x m a o region d first mid marks is brings place lists in
       rw (has.listed.used ∙ ap (λ l. l ++ used_by d) used) (can_link has.parts has.own)
+
+  -- and there is memory for them
+  pub act_few : (x : Index) (m : MapState) (a : CodeAct C) (o : Origin (Change S)) (region : Region) (d : DirectoryChange) (first mid : EditPlan) (marks : List Bytes) → IsMapOf x m → Brings k x m region a o first.writes.items
+      → map span_of first.used.items ≡ used_in k a o → IsPlace x (k.directory x) (size_after k a x) (range_after k a x) (space_behind k a o m) d
+      → Lists k (k.directory x) d (front_entries k a (k.items x)) (middle_entries k a (k.items x)) (back_entries k a (k.items x)) region first mid (new_marks k a) marks
+      → FewLinks 4 65580 6 marks (map span_of mid.used.items) (sorted span_le (usable_of (all_left k a d x))) (dead_of (all_left k a d x))
+  act_few x m a o region d first mid marks is brings used place lists =
+      let has = act_marks x m a o region d first mid marks is brings place lists in
+      rw (has.listed.used ∙ ap (λ l. l ++ used_by d) used) (few_links has.parts has.own)
+
+-- memory for the links of a plan
+pub hold : {count size most : ℕ} (own : List Bytes) (used freed dead : List Span) (p : EditPlan) → FewLinks count size most own used freed dead → vec_len p.marks + most ≤ vec_capacity p.marks → count + most ≤ p.links.spare_links → size + 32 * most ≤ p.links.spare_bytes → 4 * most ≤ p.touched.spare
+    → CanHold own (headers_for used freed dead) p
+hold own used freed dead p few marks links bytes touched = record {
+  marks = omega (arith, few.headers, marks);
+  links = omega (arith, few.few, few.headers, links);
+  link_bytes = omega (arith, few.short, few.headers, bytes);
+  touched = omega (arith, few.headers, touched);
+}
+
+pub hold_act : (own : List Bytes) (used freed dead : List Span) (p : EditPlan) → FewLinks 4 65580 6 own used freed dead → vec_len p.marks ≤ 4 → 11 ≤ vec_capacity p.marks → 11 ≤ p.links.spare_links → 65888 ≤ p.links.spare_bytes → 24 ≤ p.touched.spare
+    → CanHold own (headers_for used freed dead) p
+hold_act own used freed dead p few len marks links bytes touched = hold own used freed dead p few (omega (arith, len, marks)) (omega (arith, links)) (omega (arith, bytes)) touched

@@ -116,35 +116,35 @@ pub record Machine {C E S : Type 0} (T : Type 0) (k : Kind C E S) (effect : Chan
       → Both (Brought image pieces) acts c → WritesAround li.header (set_turn o acts) l l' pieces → l'.length < 2 ^ 63 → Plans image l l' li (effect c) (set_turn o acts) pieces
 
 -- how long the entries are
-entry_lens : (image : List ℕ) (ts : List Tile) → map of_subblocks.len_of (map (subblock_of image) (map tile_of ts)) ≡ map entry_len (entries_in of_subblocks ts)
+pub entry_lens : (image : List ℕ) (ts : List Tile) → map of_subblocks.len_of (map (subblock_of image) (map tile_of ts)) ≡ map entry_len (entries_in of_subblocks ts)
 entry_lens image [] = refl
 entry_lens image (t ∷ ts) = ap (λ l. entry_len (tile_of t).entry ∷ l) (entry_lens image ts)
 
-a1_lens : (image : List ℕ) (is : List AttItem) → map of_attachments.len_of (map (attachment_of image) (map att_item_of is)) ≡ map a1_len (entries_in of_attachments is)
+pub a1_lens : (image : List ℕ) (is : List AttItem) → map of_attachments.len_of (map (attachment_of image) (map att_item_of is)) ≡ map a1_len (entries_in of_attachments is)
 a1_lens image [] = refl
 a1_lens image (i ∷ is) = ap (λ l. 128 ∷ l) (a1_lens image is)
 
 -- the list that isn't changed stays, with its directory
-attachments_same : (s : State) (c : Change Subblock) → attachments_stay s (in_subblocks c) ≡ true
+pub attachments_same : (s : State) (c : Change Subblock) → attachments_stay s (in_subblocks c) ≡ true
 attachments_same s c = let still = all_stay_same s.layout.attachments in rw still refl
 
-tiles_same : (s : State) (c : Change Attachment) → tiles_stay s (in_attachments c) ≡ true
+pub tiles_same : (s : State) (c : Change Attachment) → tiles_stay s (in_attachments c) ≡ true
 tiles_same s c = let still = all_stay_same s.layout.subblocks in rw still refl
 
-tiles_needed : (s : State) (c : Change Subblock) → changes c (length s.layout.subblocks) ≡ true
+pub tiles_needed : (s : State) (c : Change Subblock) → changes c (length s.layout.subblocks) ≡ true
     → tiles_stay s (in_subblocks c) ≡ in_place s.layout.directory 128 s.layout.subblocks (asked_for (λ z. fresh (of_subblocks.need z)) c s.layout.subblocks) (map of_subblocks.len_of s.document.subblocks) (map of_subblocks.len_of (changed c s.document.subblocks))
 tiles_needed s c ch =
     let moved = change_moves (λ z. fresh (of_subblocks.need z)) c s.layout.subblocks (new_never of_subblocks.need) ch in
     ap (λ z. z || in_place s.layout.directory 128 s.layout.subblocks (asked_for (λ z. fresh (of_subblocks.need z)) c s.layout.subblocks) (map of_subblocks.len_of s.document.subblocks) (map of_subblocks.len_of (changed c s.document.subblocks))) moved
 
-atts_needed : (s : State) (c : Change Attachment) → changes c (length s.layout.attachments) ≡ true
+pub atts_needed : (s : State) (c : Change Attachment) → changes c (length s.layout.attachments) ≡ true
     → attachments_stay s (in_attachments c) ≡ in_place s.layout.attdir 256 s.layout.attachments (asked_for (λ z. fresh (of_attachments.need z)) c s.layout.attachments) (map of_attachments.len_of s.document.attachments) (map of_attachments.len_of (changed c s.document.attachments))
 atts_needed s c ch =
     let moved = change_moves (λ z. fresh (of_attachments.need z)) c s.layout.attachments (new_never of_attachments.need) ch in
     ap (λ z. z || in_place s.layout.attdir 256 s.layout.attachments (asked_for (λ z. fresh (of_attachments.need z)) c s.layout.attachments) (map of_attachments.len_of s.document.attachments) (map of_attachments.len_of (changed c s.document.attachments))) moved
 
 -- a directory that is listed, as the machine has it
-lists_tiles : (pieces : List Piece) (o : Setting Directory) (was : Option Directory) (old new : List FormatTile) → ListsItems of_subblocks pieces o was (map (λ (t : FormatTile). t.entry) old) (map (λ (t : FormatTile). t.entry) new) → ListsTiles pieces o was old new
+pub lists_tiles : (pieces : List Piece) (o : Setting Directory) (was : Option Directory) (old new : List FormatTile) → ListsItems of_subblocks pieces o was (map (λ (t : FormatTile). t.entry) old) (map (λ (t : FormatTile). t.entry) new) → ListsTiles pieces o was old new
 lists_tiles pieces same was old new h = absurd h
 lists_tiles pieces (to None) was old new h = absurd h
 lists_tiles pieces (to (Some d)) was old new (inl n) = inl (record { id = n.id; used = n.used; room = omega (arith, n.room); count = n.count; few = n.few; entries = n.entries; padding = n.padding; puts = n.puts })
@@ -155,7 +155,7 @@ total_a1s : (es : List A1) → total a1_len es ≡ 128 * length es
 total_a1s [] = refl
 total_a1s (e ∷ es) = omega (arith, total_a1s es)
 
-lists_atts : (pieces : List Piece) (o : Setting Directory) (was : Option Directory) (old new : List FormatAttItem) → ListsItems of_attachments pieces o was (map (λ (i : FormatAttItem). i.entry) old) (map (λ (i : FormatAttItem). i.entry) new) → ListsAttachments pieces o was old new
+pub lists_atts : (pieces : List Piece) (o : Setting Directory) (was : Option Directory) (old new : List FormatAttItem) → ListsItems of_attachments pieces o was (map (λ (i : FormatAttItem). i.entry) old) (map (λ (i : FormatAttItem). i.entry) new) → ListsAttachments pieces o was old new
 lists_atts pieces same was old new h = absurd h
 lists_atts pieces (to None) was old new h = absurd h
 lists_atts pieces (to (Some d)) was old new (inl n) =
@@ -163,7 +163,7 @@ lists_atts pieces (to (Some d)) was old new (inl n) =
 lists_atts pieces (to (Some d)) None old new (inr p) = absurd p
 lists_atts pieces (to (Some d)) (Some was) old new (inr p) = inr p
 
-pub tile_machine : Machine FormatTile of_subblocks in_subblocks
+unfoldable pub tile_machine : Machine FormatTile of_subblocks in_subblocks
 tile_machine = record {
   contents = λ d. d.subblocks;
   places = λ l. l.subblocks;
@@ -250,7 +250,7 @@ tile_machine = record {
   };
 }
 
-pub att_machine : Machine FormatAttItem of_attachments in_attachments
+unfoldable pub att_machine : Machine FormatAttItem of_attachments in_attachments
 att_machine = record {
   contents = λ d. d.attachments;
   places = λ l. l.attachments;

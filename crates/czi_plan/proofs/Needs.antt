@@ -45,7 +45,7 @@ use Rattle.czi_format.specs.FirstFault.{◌>>=◌}
 use Rattle.czi_image.specs.declared.change.Act.TheVariants.{Out, Put, Into}
 use Rattle.czi_machine.specs.Ranges.{asked_for}
 use Rattle.czi_region.specs.declared.block.Piece.{Piece as Range}
-use Rattle.czi_plan.specs.Changing.{Brings, IsNew, entries_in, new_spans, range_after, range_with, size_after, size_of, size_with, tiles_before, tiles_behind, tiles_brought, tiles_leaving, items_left}
+use Rattle.czi_plan.specs.Changing.{BringsNew, IsNew, entries_in, new_spans, range_after, range_with, size_after, size_of, size_with, tiles_before, tiles_behind, tiles_brought, tiles_leaving, items_left}
 use Rattle.czi_plan.proofs.Acts.{brought_act, changed_images, changes_act, lens_before, lens_behind, lens_leaving, range_act, range_as, size_as, sum-three, map_leaving}
 use Rattle.czi_plan.proofs.Parts.{each_of, length_by, live_once, place_spans, used_by}
 
@@ -109,7 +109,7 @@ left_by x old size range space (New d) place = ap (λ b. directory_left b (optio
     all_of (Some e) = refl
 
 -- the test of the machine is that of the code
-same_test : (head : ℕ) (o : Option DirItem) (ps : List Place) (asked : List Asked) (before after' : List ℕ) (size range : ℕ) → head + sum after' ≡ size → patched_len ps asked before after' ≡ range
+pub same_test : (head : ℕ) (o : Option DirItem) (ps : List Place) (asked : List Asked) (before after' : List ℕ) (size range : ℕ) → head + sum after' ≡ size → patched_len ps asked before after' ≡ range
     → in_place (option_map directory_place o) head ps asked before after' ≡ fits_in_place o size range
 unfolding in_place
 same_test head None ps asked before after' size range a b = refl
@@ -169,7 +169,7 @@ pub record IsAct {C E S : Type 0} (k : Kind C E S) (x : Index) (m : MapState) (a
 new_len : {C E S : Type 0} {k : Kind C E S} → Laws k → (x : Index) (m : MapState) (s : S) (t : C) → IsNew k x m s t → entries_len k (entries_in k (t ∷ [])) ≡ sum (map k.len_of (s ∷ []))
 new_len L x m s t new = ap (λ n. sum (n ∷ [])) (L.len t s new.item)
 
-pub is_act : {C E S : Type 0} {k : Kind C E S} → Laws k → (x : Index) (m : MapState) (region : Region) (a : CodeAct C) (c : Change S) (writes : List (ℕ × Range)) → Brings k x m region a c writes → IsAct k x m a c
+pub is_act : {C E S : Type 0} {k : Kind C E S} → Laws k → (x : Index) (m : MapState) (region : Region) (a : CodeAct C) (c : Change S) (writes : List (ℕ × Range)) → BringsNew k x m region a c writes → IsAct k x m a c
 is_act {C = C} {k = k} L x m region (Out i) c writes b = record {
   act = Out i;
   is = b.0;
@@ -206,7 +206,7 @@ is_act {C = C} {k = k} L x m region (Into i t) c writes b =
 
 -- Why an act has no plan, and that it has one.
 module _ {C E S T : Type 0} {k : Kind C E S} {effect : Change S → DocumentEffect} (L : Laws k) (M : Machine T k effect) where
-  items_once : (x : Index) (m : MapState) (q : ℕ) → IsMapOf x m → cover (spans_of (map k.place (k.items x))) q ≤ 1
+  pub items_once : (x : Index) (m : MapState) (q : ℕ) → IsMapOf x m → cover (spans_of (map k.place (k.items x))) q ≤ 1
   items_once x m q is =
       let D : List Span = option_to_list (option_map directory_span (k.directory x)) in
       let I : List Span = map (span_in k) (k.items x) in

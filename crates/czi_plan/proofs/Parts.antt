@@ -34,7 +34,7 @@ use Rattle.czi_plan.specs.Geometry.{AreUsed, AreFreed, IsLong, AreParts}
 use Rattle.czi_plan.specs.Plan.{usable_of, dead_of, left_directory}
 use Rattle.czi_plan.proofs.Order.{at_place, sorted_again}
 use Rattle.czi_plan.proofs.Brief.{length-sorted, spans_both}
-use Rattle.czi_plan.specs.Conditions.{IsMapOf}
+use Rattle.czi_plan.specs.Conditions.{IsLeft, IsMapOf, live_of}
 use Rattle.czi_plan.specs.Directory.{need_of}
 use Rattle.czi_plan.specs.Listing.{IsPlace}
 use Rattle.czi_machine.proofs.InOne.{in_without}
@@ -44,10 +44,10 @@ use Rattle.czi_image.specs.declared.change.Act.TheVariants.{Out, Put, Into}
 use Rattle.czi_machine.specs.Change.{Change}
 use Rattle.czi_region.specs.declared.block.Region.{Region}
 use Rattle.czi_region.specs.declared.block.Piece.{Piece as Range}
-use Rattle.czi_plan.specs.Changing.{Brings, IsNew, all_left, items_left, new_spans, space_behind, tiles_before, tiles_behind, tiles_brought, tiles_leaving}
+use Rattle.czi_plan.specs.Changing.{Brings, BringsNew, IsBack, IsNew, Origin, all_left, beside_in, edited, items_left, needed_in, new_spans, returned, space_behind, tiles_before, tiles_behind, tiles_brought, tiles_leaving, used_in}
 use Rattle.czi_plan.specs.Kind.{Kind, span_in}
 use Rattle.czi_plan.proofs.Acts.{act_parts, map-three}
-use Rattle.czi_plan.proofs.KindLaws.{Laws, live_of}
+use Rattle.czi_plan.proofs.KindLaws.{Laws}
 
 -- a part of a span that lies in one of the extents
 pub lies_sub : (r x : Span) (es : List Span) → x.at ≤ r.at → end_of r ≤ end_of x → LiesInOne x es → LiesInOne r es
@@ -202,6 +202,13 @@ use_all_most : (most : ℕ) (space : Space) (used : List Span) → space.length 
 use_all_most most space [] low all = low
 use_all_most most space (s ∷ used) low all = use_all_most most (use_span space s) used (omega (arith, low, all.0)) all.1
 
+-- where none ends past its length, it stays as long
+pub all_within : (space : Space) (used : List Span) → AllByRecursion (λ (t : Span). end_of t ≤ space.length) used → (use_all space used).length ≡ space.length
+all_within space [] all = refl
+all_within space (s ∷ used) all =
+    let same : (use_span space s).length ≡ space.length = omega (arith, all.0) in
+    all_within (use_span space s) used (subst (λ n. AllByRecursion (λ (t : Span). end_of t ≤ n) used) (sym same) all.1) ∙ same
+
 -- Where a need goes once other spans were used, and the end so far.
 pub record IsFound (n : ℕ) (held es used : List Span) (end : ℕ) (s : Span) : Type 0 where
   pub is_used : IsUsed n held es s
@@ -285,7 +292,7 @@ are_freed n [] es whole ends once = tt
 are_freed n (s ∷ spans) es whole ends once =
     (whole.0, meets_none s es (λ p. omega (arith, once p)), ends.0, are_freed n spans (with_freed s es) whole.1 ends.1 (λ p. omega (arith, once p, cover-with_freed s es p)))
 
-ends_all : (n : ℕ) (xs : List Span) → AllByRecursion (λ (s : Span). 0 < s.len) xs → ((p : ℕ) → n ≤ p → cover xs p ≡ 0) → AllByRecursion (λ (s : Span). end_of s ≤ n) xs
+pub ends_all : (n : ℕ) (xs : List Span) → AllByRecursion (λ (s : Span). 0 < s.len) xs → ((p : ℕ) → n ≤ p → cover xs p ≡ 0) → AllByRecursion (λ (s : Span). end_of s ≤ n) xs
 ends_all n [] some none = tt
 ends_all n (x ∷ xs) some none = (
   elim (cases_lt (end_of x - 1) n) [ inl h ↦ omega (arith, h, some.0) | inr h ↦ absurd (omega (arith, none (end_of x - 1) h, some.0, at_place)) ],
@@ -297,7 +304,7 @@ all_long top h front header [] long ends once = tt
 all_long top h front header (x ∷ xs) long ends once =
     (record { far = omega (arith, front, header, long.0, once x.at, at_place); long = long.0; ends = ends.0 }, all_long top h front header xs long.1 ends.1 (λ p. omega (arith, once p)))
 
-spans_filter : (P : Span → Type 0) (q : Place → Bool) (G : List Place) → AllByRecursion (λ (p : Place). P p.span) G → AllByRecursion P (spans_of (filter q G))
+pub spans_filter : (P : Span → Type 0) (q : Place → Bool) (G : List Place) → AllByRecursion (λ (p : Place). P p.span) G → AllByRecursion P (spans_of (filter q G))
 spans_filter P q G all = map-All (λ (p : Place). p.span) P (filter q G) (All-filter (λ (p : Place). P p.span) q G all)
 
 -- What goes and what is written in place, beside the file header and free extents.
@@ -312,28 +319,28 @@ pub record AreGone (n : ℕ) (h : Span) (G : List Place) (kept es : List Span) :
   pub kept_ends : AllByRecursion (λ (s : Span). end_of s ≤ n) kept
   pub once : (p : ℕ) → between h.at (end_of h) p + (cover (spans_of G) p + cover kept p) + cover es p ≤ 1
 
--- What needs were given, one after another.
-pub record AreFound (n : ℕ) (held es used : List Span) : Type 0 where
-  pub each : AllByRecursion (IsUsed n held es) used
+abbrev pub LiesOrPast : ℕ → List Span → Span → Type 0
+LiesOrPast n es s = LiesInOne s es ⊎ (n ≤ s.at)
+
+-- Spans that can be used, one after another.
+pub record AreFound (n : ℕ) (es used : List Span) : Type 0 where
+  pub each : AllByRecursion (λ s. IsWhole s × LiesOrPast n es s) used
   pub once : (q : ℕ) → cover used q ≤ 1
 
-pub none_found : (n : ℕ) (held es : List Span) → AreFound n held es []
-none_found n held es = record { each = tt; once = λ q. omega arith }
+pub none_found : (n : ℕ) (es : List Span) → AreFound n es []
+none_found n es = record { each = tt; once = λ q. omega arith }
 
-pub found_more : (n : ℕ) (held es used : List Span) (end : ℕ) (s : Span) → AreFound n held es used → IsFound n held es used end s → AreFound n held es (used ++ s ∷ [])
-found_more n held es used end s all one = record {
-  each = All-both (IsUsed n held es) used (s ∷ []) all.each (one.is_used, tt);
+pub found_more : (n : ℕ) (es used : List Span) (s : Span) → AreFound n es used → IsWhole s → LiesOrPast n es s → ((q : ℕ) → s.at ≤ q → q < end_of s → cover used q ≡ 0) → AreFound n es (used ++ s ∷ [])
+found_more n es used s all whole lies apart = record {
+  each = All-both (λ t. IsWhole t × LiesOrPast n es t) used (s ∷ []) all.each ((whole, lies), tt);
   once = λ q. (elim (cases_lt q s.at) [
     | inl h ↦ omega (arith, cover-append used (s ∷ []) q, at_place, h, all.once q)
     | inr h ↦ elim (cases_lt q (end_of s)) [
-      | inl k ↦ omega (arith, cover-append used (s ∷ []) q, at_place, one.apart q h k)
+      | inl k ↦ omega (arith, cover-append used (s ∷ []) q, at_place, apart q h k)
       | inr k ↦ omega (arith, cover-append used (s ∷ []) q, at_place, k, all.once q)
     ]
   ]);
 }
-
-abbrev pub LiesOrPast : ℕ → List Span → Span → Type 0
-LiesOrPast n es s = LiesInOne s es ⊎ (n ≤ s.at)
 
 -- one after another they lie in what the earlier ones left
 all_used : (n : ℕ) (used es : List Span) → AllByRecursion IsWhole used → AllByRecursion (LiesOrPast n es) used → ((q : ℕ) → cover used q ≤ 1) → AreUsed n used es
@@ -362,10 +369,13 @@ pub record AreTaken (n top : ℕ) (es used : List Span) : Type 0 where
   pub apart : (p : ℕ) → cover used p + cover (without used es) p ≤ 1
   pub below : (p : ℕ) → p < n → cover used p ≤ cover es p
 
-pub found_taken : (n top : ℕ) (held es used : List Span) → ((p : ℕ) → cover es p ≤ 1) → AreFound n held es used → AllByRecursion (λ (s : Span). 32 ≤ s.len) used → AllByRecursion (λ (s : Span). end_of s ≤ top) used → AreTaken n top es used
-found_taken n top held es used once all long ends =
-    let whole : AllByRecursion IsWhole used = All-weaken (IsUsed n held es) IsWhole (λ s u. u.whole) used all.each in
-    let lie : AllByRecursion (LiesOrPast n es) used = All-weaken (IsUsed n held es) (LiesOrPast n es) (λ s u. u.lies) used all.each in
+pub found_whole : (n : ℕ) (es used : List Span) → AreFound n es used → AllByRecursion IsWhole used
+found_whole n es used all = All-weaken (λ s. IsWhole s × LiesOrPast n es s) IsWhole (λ s u. u.0) used all.each
+
+pub found_taken : (n top : ℕ) (es used : List Span) → ((p : ℕ) → cover es p ≤ 1) → AreFound n es used → AllByRecursion (λ (s : Span). 32 ≤ s.len) used → AllByRecursion (λ (s : Span). end_of s ≤ top) used → AreTaken n top es used
+found_taken n top es used once all long ends =
+    let whole : AllByRecursion IsWhole used = found_whole n es used all in
+    let lie : AllByRecursion (LiesOrPast n es) used = All-weaken (λ s. IsWhole s × LiesOrPast n es s) (LiesOrPast n es) (λ s u. u.1) used all.each in
     record {
       whole = whole;
       long = long;
@@ -486,21 +496,93 @@ extents_once : (x : Index) (m : MapState) (p : ℕ) → IsMapOf x m → cover m.
 extents_once x m p is = omega (arith, live_once x m p is)
 
 -- a need of a map, once other spans were used
-pub found_in : (x : Index) (m : MapState) (need : ℕ) (used : List Span) (s : Span) → IsMapOf x m → AreFound m.length m.held m.extents used → need % 32 ≡ 0 → 0 < need
+pub found_in : (x : Index) (m : MapState) (need : ℕ) (used : List Span) (s : Span) → IsMapOf x m → AllByRecursion IsWhole used → need % 32 ≡ 0 → 0 < need
     → fit (use_all (space_of m) used) need ≡ Ok (record { span = s; space = use_span (use_all (space_of m) used) s }) → IsFound m.length m.held m.extents used (use_all (space_of m) used).length s
-found_in x m need used s is all even some fits =
-    found m.length need m.held m.extents used s (map_extents x m is) is.held (All-weaken (IsUsed m.length m.held m.extents) IsWhole (λ t u. u.whole) used all.each) even some fits
+found_in x m need used s is whole even some fits = found m.length need m.held m.extents used s (map_extents x m is) is.held whole even some fits
 
 -- and a new directory behind it
-pub new_found : (x : Index) (m : MapState) (size : ℕ) (used : List Span) (d : DirItem) → IsMapOf x m → AreFound m.length m.held m.extents used
+pub new_found : (x : Index) (m : MapState) (size : ℕ) (used : List Span) (d : DirItem) → IsMapOf x m → AllByRecursion IsWhole used
     → fit (use_all (space_of m) used) (need_of size) ≡ Ok (record { span = directory_span d; space = use_span (use_all (space_of m) used) (directory_span d) }) → IsFound m.length m.held m.extents used (use_all (space_of m) used).length (directory_span d)
-new_found x m size used d is all fits = found_in x m (need_of size) used (directory_span d) is all (omega arith) (omega arith) fits
+new_found x m size used d is whole fits = found_in x m (need_of size) used (directory_span d) is whole (omega arith) (omega arith) fits
 
-pub directory_found : (x : Index) (m : MapState) (old : Option DirItem) (size range : ℕ) (used : List Span) (d : DirectoryChange) → IsMapOf x m → AreFound m.length m.held m.extents used → IsPlace x old size range (use_all (space_of m) used) d
-    → AreFound m.length m.held m.extents (used ++ used_by d)
-directory_found x m old size range used Kept is all place = absurd place
-directory_found x m old size range used Patched is all place = subst (AreFound m.length m.held m.extents) (sym (append-nil used)) all
-directory_found x m old size range used (New d) is all place = found_more m.length m.held m.extents used (use_all (space_of m) used).length (directory_span d) all (new_found x m size used d is all place.1)
+-- a single span that a need was given
+pub one_found : (n : ℕ) (held es : List Span) (end : ℕ) (s : Span) → IsFound n held es [] end s → AreFound n es (s ∷ [])
+one_found n held es end s found = found_more n es [] s (none_found n es) found.is_used.whole found.is_used.lies (λ q h k. refl)
+
+-- no need goes where a span is held
+held_clear : (n : ℕ) (held es needed : List Span) (end : ℕ) (s h : Span) (q : ℕ) → ((p : ℕ) → h.at ≤ p → p < end_of h → 1 ≤ cover held p) → end_of h ≤ n → IsFound n held es needed end s → s.at ≤ q → q < end_of s → cover (h ∷ []) q ≡ 0
+held_clear n held es needed end s h q is ends found low high = elim (cases_lt q h.at) [
+  | inl l ↦ omega (arith, at_place, l)
+  | inr l ↦ elim (cases_lt q (end_of h)) [
+    | inr k ↦ omega (arith, at_place, k)
+    | inl k ↦ elim (found.is_used.free q low high) [
+      | inr p ↦ absurd (omega (arith, k, p, ends))
+      | inl c ↦ absurd (omega (arith, without_in held es q (omega (arith, is q l k)), c))
+    ]
+  ]
+]
+
+-- What is brought, among what is live and the extents: the spans that are used, those beside them, and those of its needs.
+pub record AreBrought (x : Index) (m : MapState) (used beside needed : List Span) : Type 0 where
+  pub found : AreFound m.length m.extents used
+  pub whole : AllByRecursion IsWhole needed
+  pub ends : AllByRecursion (λ (s : Span). end_of s ≤ (use_all (space_of m) needed).length) used
+  pub beside_ends : AllByRecursion (λ (s : Span). end_of s ≤ m.length) beside
+  pub once : (q : ℕ) → cover (live_of x) q + (cover m.extents q + cover beside q) ≤ 1
+  pub clear : (end : ℕ) (s : Span) → IsFound m.length m.held m.extents needed end s → (q : ℕ) → s.at ≤ q → q < end_of s → cover used q ≡ 0
+
+pub none_brought : (x : Index) (m : MapState) → IsMapOf x m → AreBrought x m [] [] []
+none_brought x m is = record { found = none_found m.length m.extents; whole = tt; ends = tt; beside_ends = tt; once = λ q. omega (arith, live_once x m q is); clear = λ end s found q low high. refl }
+
+-- a new one
+pub new_brought : (x : Index) (m : MapState) (s : Span) → IsMapOf x m → IsFound m.length m.held m.extents [] m.length s → AreBrought x m (s ∷ []) [] (s ∷ [])
+new_brought x m s is found = record {
+  found = one_found m.length m.held m.extents m.length s found;
+  whole = (found.is_used.whole, tt);
+  ends = (use_all_ends (space_of m) (s ∷ [])).1;
+  beside_ends = tt;
+  once = λ q. omega (arith, live_once x m q is);
+  clear = λ end t there. there.apart;
+}
+
+-- and one that comes back
+pub back_brought : (x : Index) (m : MapState) (p : Place) → IsMapOf x m → 0 < p.span.len → IsLeft x m p → AreBrought x m (usable_of (p ∷ [])) (dead_of (p ∷ [])) []
+back_brought x m p is some left = elim (cases_Bool (can_be_used p)) [
+  | inl e ↦
+      let among = left.among.0 e in
+      let whole : AllByRecursion IsWhole (p.span ∷ []) = let all = freed_whole (p ∷ []) (some, tt) in rw e at all in
+      rw e (record {
+        found = found_more m.length m.extents [] p.span (none_found m.length m.extents) whole.0 (inl among.0) (λ q h k. refl);
+        whole = tt;
+        ends = (omega (arith, left.inside, is.length), tt);
+        beside_ends = tt;
+        once = λ q. omega (arith, live_once x m q is);
+        clear = λ end s found q low high. held_clear m.length m.held m.extents [] end s p.span q among.1 (omega (arith, left.inside, is.length)) found low high;
+      })
+  | inr e ↦ rw e (record {
+    found = none_found m.length m.extents;
+    whole = tt;
+    ends = tt;
+    beside_ends = (omega (arith, left.inside, is.length), tt);
+    once = λ q. (elim (cases_lt q p.span.at) [
+      | inl h ↦ omega (arith, live_once x m q is, at_place, h)
+      | inr h ↦ elim (cases_lt q (end_of p.span)) [
+        | inl k ↦ omega (arith, none_in p.span (live_of x) q left.apart h k, none_in p.span m.extents q (left.among.1 e) h k, at_place)
+        | inr k ↦ omega (arith, live_once x m q is, at_place, k)
+      ]
+    ]);
+    clear = λ end s found q low high. refl;
+  })
+]
+
+-- a directory goes where nothing is brought
+pub directory_found : (x : Index) (m : MapState) (old : Option DirItem) (size range : ℕ) (used beside needed : List Span) (d : DirectoryChange) → IsMapOf x m → AreBrought x m used beside needed → IsPlace x old size range (use_all (space_of m) needed) d
+    → AreFound m.length m.extents (used ++ used_by d)
+directory_found x m old size range used beside needed Kept is all place = absurd place
+directory_found x m old size range used beside needed Patched is all place = subst (AreFound m.length m.extents) (sym (append-nil used)) all.found
+directory_found x m old size range used beside needed (New d) is all place =
+    let dir = new_found x m size needed d is all.whole place.1 in
+    found_more m.length m.extents used (directory_span d) all.found dir.is_used.whole dir.is_used.lies (all.clear (use_all (space_of m) needed).length (directory_span d) dir)
 
 pub few_brought : {X : Type 0} (a : CodeAct X) → length (tiles_brought a) ≤ 1
 few_brought (Out i) = omega arith
@@ -513,8 +595,12 @@ few_leaving (Put i t) ts = omega (arith, length-take 1 (drop i ts))
 few_leaving (Into i t) ts = omega arith
 
 -- the length afterwards
-abbrev pub length_after : {C E S : Type 0} → Kind C E S → CodeAct C → DirectoryChange → MapState → ℕ
-length_after k a d m = length_by d (space_behind k a m).length
+abbrev pub length_after : {C E S : Type 0} → Kind C E S → CodeAct C → Origin (Change S) → DirectoryChange → MapState → ℕ
+length_after k a o d m = length_by d (space_behind k a o m).length
+
+-- the spans beside what is used
+abbrev pub beside_of : {C E S : Type 0} → Kind C E S → CodeAct C → Origin (Change S) → DirectoryChange → Index → List Span
+beside_of k a o d x = beside_in k a o ++ kept_of d (k.directory x)
 
 -- What an act uses and frees, of either list.
 module _ {C E S : Type 0} {k : Kind C E S} (L : Laws k) where
@@ -526,8 +612,36 @@ module _ {C E S : Type 0} {k : Kind C E S} (L : Laws k) where
     ap (λ l. cover l q) (place_spans k.place (tiles_leaving a (k.items x))),
   )
 
-  are_gone : (x : Index) (m : MapState) (a : CodeAct C) (d : DirectoryChange) → IsMapOf x m → AreGone m.length (header_span x.header) (all_left k a d x) (kept_of d (k.directory x)) m.extents
-  are_gone x m a d is =
+  -- what an act brings
+  pub brought_covers : (a : CodeAct C) (o : Origin (Change S)) (q : ℕ) → cover (new_spans k a) q ≡ cover (used_in k a o) q + cover (beside_in k a o) q
+  brought_covers a (edited c) q = omega arith
+  brought_covers a returned q = omega (arith, cover-split can_be_used (map k.place (tiles_brought a)) q, ap (λ l. cover l q) (place_spans k.place (tiles_brought a)))
+
+  pub of_brought : (P : Span → Type 0) (a : CodeAct C) (o : Origin (Change S)) → AllByRecursion P (new_spans k a) → AllByRecursion P (used_in k a o) × AllByRecursion P (beside_in k a o)
+  of_brought P a (edited c) all = (all, tt)
+  of_brought P a returned all =
+      let places : AllByRecursion (λ (p : Place). P p.span) (map k.place (tiles_brought a)) = map-All k.place (λ (p : Place). P p.span) (tiles_brought a) (All-map (span_in k) P (tiles_brought a) all) in
+      (spans_filter P can_be_used (map k.place (tiles_brought a)) places, spans_filter P (λ (p : Place). not (can_be_used p)) (map k.place (tiles_brought a)) places)
+
+  pub item_found : (x : Index) (m : MapState) (s : S) (t : C) → IsMapOf x m → IsNew k x m s t → IsFound m.length m.held m.extents [] m.length (span_in k t)
+  item_found x m s t is new = found_in x m (k.need s) [] (span_in k t) is tt (L.need s).0 (L.need s).1 new.fits
+
+  new_by : (x : Index) (m : MapState) (region : Region) (a : CodeAct C) (c : Change S) (writes : List (ℕ × Range)) → IsMapOf x m → BringsNew k x m region a c writes → AreBrought x m (new_spans k a) [] (new_spans k a)
+  new_by x m region (Out i) c writes is b = none_brought x m is
+  new_by x m region (Put i t) c writes is b = new_brought x m (span_in k t) is (item_found x m b.0 t is b.2)
+  new_by x m region (Into i t) c writes is b = new_brought x m (span_in k t) is (item_found x m b.0 t is b.2)
+
+  back_by : (x : Index) (m : MapState) (a : CodeAct C) → IsMapOf x m → AllByRecursion (IsBack k x m) (tiles_brought a) → AreBrought x m (usable_of (map k.place (tiles_brought a))) (dead_of (map k.place (tiles_brought a))) []
+  back_by x m (Out i) is b = none_brought x m is
+  back_by x m (Put i t) is b = back_brought x m (k.place t) is (omega (arith, L.extent t)) b.0.1
+  back_by x m (Into i t) is b = back_brought x m (k.place t) is (omega (arith, L.extent t)) b.0.1
+
+  pub brought_by : (x : Index) (m : MapState) (region : Region) (a : CodeAct C) (o : Origin (Change S)) (writes : List (ℕ × Range)) → IsMapOf x m → Brings k x m region a o writes → AreBrought x m (used_in k a o) (beside_in k a o) (needed_in k a o)
+  brought_by x m region a (edited c) writes is b = new_by x m region a c writes is b
+  brought_by x m region a returned writes is b = back_by x m a is b.0
+
+  are_gone : (x : Index) (m : MapState) (a : CodeAct C) (o : Origin (Change S)) (d : DirectoryChange) → IsMapOf x m → AreBrought x m (used_in k a o) (beside_in k a o) (needed_in k a o) → AreGone m.length (header_span x.header) (all_left k a d x) (beside_of k a o d x) m.extents
+  are_gone x m a o d is all =
       let B : List Span = L.front x in
       let D : List Span = option_to_list (option_map directory_span (k.directory x)) in
       let T : List Span = map (span_in k) (k.items x) in
@@ -545,14 +659,15 @@ module _ {C E S : Type 0} {k : Kind C E S} (L : Laws k) where
         rise = map_extents x m is;
         long = All-both (λ (p : Place). 32 ≤ p.span.len) (items_left k a x) (left_directory d (k.directory x)) (map-All k.place (λ (p : Place). 32 ≤ p.span.len) G (each_of _ (λ t. omega (arith, L.extent t)) G)) (of_both (λ t. 32 ≤ t.len) d (k.directory x) (own_long (k.directory x))).0;
         ends = All-both (λ (p : Place). end_of p.span ≤ m.length) (items_left k a x) (left_directory d (k.directory x)) (map-All k.place (λ (p : Place). end_of p.span ≤ m.length) G (All-map (span_in k) P G leaving)) (of_both P d (k.directory x) behind.0).0;
-        kept_long = (of_both (λ t. 32 ≤ t.len) d (k.directory x) (own_long (k.directory x))).1;
-        kept_ends = (of_both P d (k.directory x) behind.0).1;
+        kept_long = All-both (λ (t : Span). 32 ≤ t.len) (beside_in k a o) (kept_of d (k.directory x)) (of_brought (λ t. 32 ≤ t.len) a o (new_long a)).1 (of_both (λ t. 32 ≤ t.len) d (k.directory x) (own_long (k.directory x))).1;
+        kept_ends = All-both P (beside_in k a o) (kept_of d (k.directory x)) all.beside_ends (of_both P d (k.directory x) behind.0).1;
         once = λ p. omega (
           arith,
-          live_once x m p is,
+          all.once p,
           ap (λ l. cover l p) (L.live x),
           left_cover a d x p,
           one_of_both d (k.directory x) p,
+          cover-append (beside_in k a o) (kept_of d (k.directory x)) p,
           cover-append B (D ++ (T ++ R)) p,
           cover-append D (T ++ R) p,
           cover-append T R p,
@@ -561,56 +676,59 @@ module _ {C E S : Type 0} {k : Kind C E S} (L : Laws k) where
           cover-append (map (span_in k) G) (map (span_in k) (tiles_behind a (k.items x))) p,
         );
       }
+    where
+      new_long : (a : CodeAct C) → AllByRecursion (λ (t : Span). 32 ≤ t.len) (new_spans k a)
+      new_long a = map-All (span_in k) (λ (s : Span). 32 ≤ s.len) (tiles_brought a) (each_of _ (λ t. omega (arith, L.extent t)) (tiles_brought a))
 
-  -- a new item
-  pub item_found : (x : Index) (m : MapState) (s : S) (t : C) → IsMapOf x m → IsNew k x m s t → IsFound m.length m.held m.extents [] m.length (span_in k t)
-  item_found x m s t is new = found_in x m (k.need s) [] (span_in k t) is (none_found m.length m.held m.extents) (L.need s).0 (L.need s).1 new.fits
-
-  pub brought_found : (x : Index) (m : MapState) (region : Region) (a : CodeAct C) (c : Change S) (writes : List (ℕ × Range)) → IsMapOf x m → Brings k x m region a c writes → AreFound m.length m.held m.extents (new_spans k a)
-  brought_found x m region (Out i) c writes is b = none_found m.length m.held m.extents
-  brought_found x m region (Put i t) c writes is b = found_more m.length m.held m.extents [] m.length (span_in k t) (none_found m.length m.held m.extents) (item_found x m b.0 t is b.2)
-  brought_found x m region (Into i t) c writes is b = found_more m.length m.held m.extents [] m.length (span_in k t) (none_found m.length m.held m.extents) (item_found x m b.0 t is b.2)
-
-  pub length_small : (x : Index) (m : MapState) (a : CodeAct C) (d : DirectoryChange) → IsMapOf x m → (m.length ≤ (space_behind k a m).length) × ((space_behind k a m).length ≤ length_after k a d m) × (length_after k a d m ≤ 2 ^ 62)
-  length_small x m a d is =
-      let low = (use_all_ends (space_of m) (new_spans k a)).0 in
-      let most : (space_behind k a m).length ≤ 2 ^ 62 = use_all_most (2 ^ 62) (space_of m) (new_spans k a) (omega (arith, x.small, is.length)) (map-All (span_in k) (λ (s : Span). end_of s ≤ 2 ^ 62) (tiles_brought a) (each_of _ (λ t. L.ends t) (tiles_brought a))) in
+  pub length_small : (x : Index) (m : MapState) (a : CodeAct C) (o : Origin (Change S)) (d : DirectoryChange) → IsMapOf x m → (m.length ≤ (space_behind k a o m).length) × ((space_behind k a o m).length ≤ length_after k a o d m) × (length_after k a o d m ≤ 2 ^ 62)
+  length_small x m a o d is =
+      let low = (use_all_ends (space_of m) (needed_in k a o)).0 in
+      let most : (space_behind k a o m).length ≤ 2 ^ 62 = use_all_most (2 ^ 62) (space_of m) (needed_in k a o) (omega (arith, x.small, is.length)) (needs_end o) in
       (low, (by d).0, omega (arith, most, (by d).1))
     where
-      by : (c : DirectoryChange) → ((space_behind k a m).length ≤ length_by c (space_behind k a m).length) × (length_by c (space_behind k a m).length ≤ max (space_behind k a m).length (2 ^ 62))
+      needs_end : (o : Origin (Change S)) → AllByRecursion (λ (s : Span). end_of s ≤ 2 ^ 62) (needed_in k a o)
+      needs_end (edited c) = map-All (span_in k) (λ (s : Span). end_of s ≤ 2 ^ 62) (tiles_brought a) (each_of _ (λ t. L.ends t) (tiles_brought a))
+      needs_end returned = tt
+
+      by : (c : DirectoryChange) → ((space_behind k a o m).length ≤ length_by c (space_behind k a o m).length) × (length_by c (space_behind k a o m).length ≤ max (space_behind k a o m).length (2 ^ 62))
       by Kept = (omega arith, omega arith)
       by Patched = (omega arith, omega arith)
       by (New e) = (omega arith, omega (arith, e.ends))
 
-  -- what holds of what is brought and of a new directory
-  of_used : (P : Span → Type 0) (a : CodeAct C) (d : DirectoryChange) → AllByRecursion P (new_spans k a) → ((e : DirItem) → d ≡ New e → P (directory_span e)) → AllByRecursion P (new_spans k a ++ used_by d)
-  of_used P a d all one = All-both P (new_spans k a) (used_by d) all (by d one)
+  -- what holds of what is used, and of a new directory
+  pub of_used : (P : Span → Type 0) (used : List Span) (d : DirectoryChange) → AllByRecursion P used → ((e : DirItem) → d ≡ New e → P (directory_span e)) → AllByRecursion P (used ++ used_by d)
+  of_used P used d all one = All-both P used (used_by d) all (by d one)
     where
       by : (c : DirectoryChange) → ((e : DirItem) → c ≡ New e → P (directory_span e)) → AllByRecursion P (used_by c)
       by Kept f = tt
       by Patched f = tt
       by (New e) f = (f e refl, tt)
 
-  are_taken : (x : Index) (m : MapState) (a : CodeAct C) (d : DirectoryChange) → IsMapOf x m → AreFound m.length m.held m.extents (new_spans k a ++ used_by d) → AreTaken m.length (length_after k a d m) m.extents (new_spans k a ++ used_by d)
-  are_taken x m a d is all =
-      let n : ℕ = (space_behind k a m).length in
-      let long : AllByRecursion (λ (s : Span). 32 ≤ s.len) (new_spans k a) = map-All (span_in k) (λ (s : Span). 32 ≤ s.len) (tiles_brought a) (each_of _ (λ t. omega (arith, L.extent t)) (tiles_brought a)) in
-      let ends : AllByRecursion (λ (s : Span). end_of s ≤ length_after k a d m) (new_spans k a)
-      = All-weaken (λ (s : Span). end_of s ≤ n) (λ s. end_of s ≤ length_after k a d m) (λ s h. omega (arith, h, (length_small x m a d is).1)) (new_spans k a) (use_all_ends (space_of m) (new_spans k a)).1 in
-      found_taken m.length (length_after k a d m) m.held m.extents (new_spans k a ++ used_by d) (λ p. extents_once x m p is) all (of_used (λ s. 32 ≤ s.len) a d long (λ e same. e.long))
-      (of_used (λ s. end_of s ≤ length_after k a d m) a d ends (λ e same. omega (arith, ap (λ c. length_by c n) same)))
+  are_taken : (x : Index) (m : MapState) (a : CodeAct C) (o : Origin (Change S)) (d : DirectoryChange) → IsMapOf x m → AreBrought x m (used_in k a o) (beside_in k a o) (needed_in k a o) → AreFound m.length m.extents (used_in k a o ++ used_by d)
+      → AreTaken m.length (length_after k a o d m) m.extents (used_in k a o ++ used_by d)
+  are_taken x m a o d is brought all =
+      let n : ℕ = (space_behind k a o m).length in
+      let long : AllByRecursion (λ (s : Span). 32 ≤ s.len) (used_in k a o)
+      = (of_brought (λ s. 32 ≤ s.len) a o (map-All (span_in k) (λ (s : Span). 32 ≤ s.len) (tiles_brought a) (each_of _ (λ t. omega (arith, L.extent t)) (tiles_brought a)))).0 in
+      let ends : AllByRecursion (λ (s : Span). end_of s ≤ length_after k a o d m) (used_in k a o)
+      = All-weaken (λ (s : Span). end_of s ≤ n) (λ s. end_of s ≤ length_after k a o d m) (λ s h. omega (arith, h, (length_small x m a o d is).1)) (used_in k a o) brought.ends in
+      found_taken m.length (length_after k a o d m) m.extents (used_in k a o ++ used_by d) (λ p. extents_once x m p is) all (of_used (λ s. 32 ≤ s.len) (used_in k a o) d long (λ e same. e.long))
+      (of_used (λ s. end_of s ≤ length_after k a o d m) (used_in k a o) d ends (λ e same. omega (arith, ap (λ c. length_by c n) same)))
 
   -- one span at most is held back
   pub few_held : (a : CodeAct C) (x : Index) (held : List CodeSpan) → map span_of held ≡ usable_of (items_left k a x) → length held ≤ 1
   few_held a x held is =
       omega (arith, length-map held span_of, ap length is, spans_both can_be_used (items_left k a x), length-map (tiles_leaving a (k.items x)) k.place, few_leaving a (k.items x))
 
-  few_by : (a : CodeAct C) (d : DirectoryChange) (x : Index) → 2 * length (new_spans k a ++ used_by d) + length (usable_of (all_left k a d x)) + length (dead_of (all_left k a d x)) ≤ 6
-  few_by a d x = omega (
+  pub few_used : (a : CodeAct C) (o : Origin (Change S)) → length (used_in k a o) ≤ 1
+  few_used a (edited c) = omega (arith, length-map (tiles_brought a) (span_in k), few_brought a)
+  few_used a returned = omega (arith, spans_both can_be_used (map k.place (tiles_brought a)), length-map (tiles_brought a) k.place, few_brought a)
+
+  few_by : (a : CodeAct C) (o : Origin (Change S)) (d : DirectoryChange) (x : Index) → 2 * length (used_in k a o ++ used_by d) + length (usable_of (all_left k a d x)) + length (dead_of (all_left k a d x)) ≤ 6
+  few_by a o d x = omega (
     arith,
-    length-append (new_spans k a) (used_by d),
-    length-map (tiles_brought a) (span_in k),
-    few_brought a,
+    length-append (used_in k a o) (used_by d),
+    few_used a o,
     used_few d,
     spans_both can_be_used (all_left k a d x),
     length-append (items_left k a x) (left_directory d (k.directory x)),
@@ -631,20 +749,23 @@ module _ {C E S : Type 0} {k : Kind C E S} (L : Laws k) where
       left_few (New e) (Some f) = omega arith
 
   -- the spans of an act
-  pub parts_of : (x : Index) (m : MapState) (a : CodeAct C) (d : DirectoryChange) → IsMapOf x m → AreFound m.length m.held m.extents (new_spans k a ++ used_by d)
-      → AreParts m.length (length_after k a d m) (new_spans k a ++ used_by d) (sorted span_le (usable_of (all_left k a d x))) (dead_of (all_left k a d x)) (kept_of d (k.directory x)) m.extents
-  parts_of x m a d is all =
-      are_parts m.length (length_after k a d m) (header_span x.header) (all_left k a d x) (kept_of d (k.directory x)) m.extents (new_spans k a ++ used_by d) (are_gone x m a d is) (are_taken x m a d is all)
-      (omega (arith, length_small x m a d is)) (length_small x m a d is).2 (few_by a d x)
+  pub parts_of : (x : Index) (m : MapState) (a : CodeAct C) (o : Origin (Change S)) (d : DirectoryChange) → IsMapOf x m → AreBrought x m (used_in k a o) (beside_in k a o) (needed_in k a o) → AreFound m.length m.extents (used_in k a o ++ used_by d)
+      → AreParts m.length (length_after k a o d m) (used_in k a o ++ used_by d) (sorted span_le (usable_of (all_left k a d x))) (dead_of (all_left k a d x)) (beside_of k a o d x) m.extents
+  parts_of x m a o d is brought all =
+      are_parts m.length (length_after k a o d m) (header_span x.header) (all_left k a d x) (beside_of k a o d x) m.extents (used_in k a o ++ used_by d) (are_gone x m a o d is brought) (are_taken x m a o d is brought all)
+      (omega (arith, length_small x m a o d is)) (length_small x m a o d is).2 (few_by a o d x)
 
-  -- nothing live lies in what is used
-  pub used_apart : (x : Index) (m : MapState) (a : CodeAct C) (d : DirectoryChange) (q : ℕ) → IsMapOf x m → AreFound m.length m.held m.extents (new_spans k a ++ used_by d)
-      → cover (live_of x) q + (cover (new_spans k a ++ used_by d) q + cover (without (new_spans k a ++ used_by d) m.extents) q) ≤ 1
-  used_apart x m a d q is all =
-      let taken = are_taken x m a d is all in
+  -- nothing live lies in what is used, nor beside it
+  pub used_apart : (x : Index) (m : MapState) (a : CodeAct C) (o : Origin (Change S)) (d : DirectoryChange) (q : ℕ) → IsMapOf x m → AreBrought x m (used_in k a o) (beside_in k a o) (needed_in k a o) → AreFound m.length m.extents (used_in k a o ++ used_by d)
+      → cover (live_of x) q + (cover (new_spans k a ++ used_by d) q + cover (without (used_in k a o ++ used_by d) m.extents) q) ≤ 1
+  used_apart x m a o d q is brought all =
+      let taken = are_taken x m a o d is brought all in
+      let covers = brought_covers a o q in
+      let both = cover-append (new_spans k a) (used_by d) q in
+      let used = cover-append (used_in k a o) (used_by d) q in
       elim (cases_lt q m.length) [
-        | inl h ↦ omega (arith, live_once x m q is, taken.apart q, taken.below q h, without_fewer (new_spans k a ++ used_by d) m.extents q)
-        | inr h ↦ omega (arith, taken.apart q, ends_none x.length q (live_of x) x.inside (omega (arith, h, is.length)))
+        | inl h ↦ omega (arith, covers, both, used, brought.once q, taken.apart q, taken.below q h, without_fewer (used_in k a o ++ used_by d) m.extents q)
+        | inr h ↦ omega (arith, covers, both, used, taken.apart q, ends_none m.length q (beside_in k a o) brought.beside_ends h, ends_none x.length q (live_of x) x.inside (omega (arith, h, is.length)))
       ]
 
 pub spans_split : (q : Place → Bool) (xs ys : List Place) → spans_of (filter q (xs ++ ys)) ≡ spans_of (filter q xs) ++ spans_of (filter q ys)

@@ -1,11 +1,14 @@
 -- The extents that spans touch change by themselves: what these make of them is what they make of all, and the others stay.
-use Rattle.std.proofs.Common.{◌≡◌, ◌⊎◌, ℕ, ◌-◌, ◌<◌, ◌≤◌, List, [], ◌∷◌, ◌++◌, Bool, true, false, suc, map, filter, length, get_or, nat_lt, ◌==◌, refl, ap, sym, ◌∙◌, subst, arith, inl, inr}
+use Rattle.std.proofs.Common.{◌≡◌, ◌⊎◌, ℕ, ◌-◌, ◌<◌, ◌≤◌, List, [], ◌∷◌, ◌++◌, Bool, true, false, suc, map, filter, length, get_or, nat_lt, ◌==◌, refl, ap, sym, ◌∙◌, subst, arith, inl, inr, append_assoc}
 use Rattle.std.specs.List.{AllByRecursion, flat_map, list_any}
 use Rattle.std.proofs.lemmas.Bool.{cases_Bool, cases_lt, lt-ltb, ltb-true, ltb-false, eqb-true, eqb-false, ne_eqb}
 use Rattle.std.proofs.lemmas.Bool.Decides.{nat_tests}
+use Rattle.std.proofs.lemmas.List.{map-append}
 use Rattle.std.proofs.lemmas.List.Elements.{filter-append}
 use Rattle.czi_format.specs.Space.{deleted_after, from_to, left_of, same_span, together, with_all_freed, with_freed, with_next, without}
-use Rattle.czi_format.specs.Span.{Span, end_of, meets, sorted, span_le, LiesInOne}
+use Rattle.czi_format.specs.Span.{Span, end_of, meets, sorted, span_le, IsWhole, LiesInOne}
+use Rattle.czi_num.specs.Span.{span_of}
+use Rattle.czi_num.specs.declared.span.Span.{Span as CodeSpan}
 use Rattle.czi_machine.proofs.Leaving.{among_themselves}
 use Rattle.czi_machine.proofs.Tiled.{All-filter, All-both, All-weaken}
 use Rattle.czi_spans.specs.Apart.{AreApart}
@@ -15,7 +18,7 @@ use Rattle.czi_space.proofs.Edited.{read_as}
 use Rattle.czi_space.proofs.Freed.{freed_extents}
 use Rattle.czi_plan.specs.Geometry.{AreFreed, AreUsed, is_touched, touches}
 use Rattle.czi_plan.specs.Marks.{is_new}
-use Rattle.czi_plan.proofs.Order.{used_stay}
+use Rattle.czi_plan.proofs.Order.{extents_apart, used_stay}
 use Rattle.czi_format.proofs.Local.{All-append}
 
 -- it holds of each span that s touches
@@ -230,13 +233,59 @@ hull_missed used freed first last [] all order none = refl
 hull_missed used freed first last (e ∷ es) all order none =
     rw (any_missed (record { at = first.at; len = end_of last - first.at }) e (used ++ freed) all.0.0 (omega (arith, all.0.1, order)) none) (hull_missed used freed first last es all.1 order none)
 
-pub apart_parts : {X : Type 0} (f : X → Span) (from : ℕ) (xs ys : List X) → AreApart from (map f (xs ++ ys)) → AreApart 0 (map f xs) × AreApart 0 (map f ys)
-apart_parts {X} f from xs ys apart = let both = parts from xs apart in (lower from (map f xs) both.0, both.1)
+-- Extents behind others: they are apart, and where those that aren't touched leave, what is left rises.
+pub behind_apart : (fs : List Span) (from to : ℕ) (es : List Span) → AreExtents from to (fs ++ es) → AreApart 0 es
+behind_apart [] from to es rise = lower from es (extents_apart from to es rise)
   where
     lower : (n : ℕ) (ss : List Span) → AreApart n ss → AreApart 0 ss
     lower n [] a = tt
     lower n (s ∷ ss) a = (omega arith, a.1, a.2)
+behind_apart (f ∷ fs) from to es rise = behind_apart fs (end_of f) to es rise.2
 
-    parts : (n : ℕ) (zs : List X) → AreApart n (map f (zs ++ ys)) → AreApart n (map f zs) × AreApart 0 (map f ys)
-    parts n [] a = (tt, lower n (map f ys) a)
-    parts n (z ∷ zs) a = let rest = parts (end_of (f z)) zs a.2 in ((a.0, a.1, rest.0), rest.1)
+rise_lower : (from low to : ℕ) (es : List Span) → low ≤ from → AreExtents from to es → AreExtents low to es
+rise_lower from low to [] h rise = omega (arith, h, rise)
+rise_lower from low to (e ∷ es) h rise = (omega (arith, h, rise.0), rise.1, rise.2)
+
+rise_up : (from to : ℕ) (es : List Span) → AreExtents from to es → from ≤ to
+rise_up from to [] rise = rise
+rise_up from to (e ∷ es) rise = omega (arith, rise.0, rise_up (end_of e) to es rise.2)
+
+-- the first of them
+pub front_rise : (from to : ℕ) (fs es : List Span) → AreExtents from to (fs ++ es) → AreExtents from to fs
+front_rise from to [] es rise = rise_up from to es rise
+front_rise from to (f ∷ fs) es rise = (rise.0, rise.1, front_rise (end_of f) to fs es rise.2)
+
+-- some that leave
+leave_rise : (t : Span → Bool) (from to : ℕ) (es gs : List Span) → AreExtents from to (es ++ gs) → AreExtents from to (filter t es ++ gs)
+leave_rise t from to [] gs rise = rise
+leave_rise t from to (e ∷ es) gs rise = elim (cases_Bool (t e)) [
+  | inl p ↦ rw p (rise.0, rise.1, leave_rise t (end_of e) to es gs rise.2)
+  | inr p ↦ rw p (rise_lower (end_of e) from to (filter t es ++ gs) (omega (arith, rise.0)) (leave_rise t (end_of e) to es gs rise.2))
+]
+
+touched_rise : (t : Span → Bool) (from to : ℕ) (fs es gs : List Span) → AreExtents from to (fs ++ (es ++ gs)) → AreExtents from to ((fs ++ filter t es) ++ gs)
+touched_rise t from to [] es gs rise = leave_rise t from to es gs rise
+touched_rise t from to (f ∷ fs) es gs rise = (rise.0, rise.1, touched_rise t (end_of f) to fs es gs rise.2)
+
+-- two halves
+pub low_rise : (from to : ℕ) (fs : List Span) (low high : List CodeSpan) → AreExtents from to (fs ++ map span_of (low ++ high)) → AreExtents from to (fs ++ map span_of low)
+low_rise from to fs low high rise =
+    front_rise from to (fs ++ map span_of low) (map span_of high) (subst (AreExtents from to) (ap (λ l. fs ++ l) (map-append span_of low high) ∙ sym (append_assoc fs (map span_of low) (map span_of high))) rise)
+
+pub high_rise : (t : Span → Bool) (from to : ℕ) (fs : List Span) (low high : List CodeSpan) → AreExtents from to (fs ++ map span_of (low ++ high)) → AreExtents from to ((fs ++ filter t (map span_of low)) ++ map span_of high)
+high_rise t from to fs low high rise = touched_rise t from to fs (map span_of low) (map span_of high) (subst (λ l. AreExtents from to (fs ++ l)) (map-append span_of low high) rise)
+
+-- one that comes behind others
+pub one_rise : (from to : ℕ) (fs : List Span) (s : Span) → AreExtents from to (fs ++ s ∷ []) → AreExtents from s.at fs × IsWhole s × (end_of s ≤ to)
+one_rise from to [] s rise = (rise.0, rise.1, rise.2)
+one_rise from to (f ∷ fs) s rise = let rest = one_rise (end_of f) to fs s rise.2 in ((rise.0, rise.1, rest.0), rest.1, rest.2)
+
+-- extents in two parts
+pub touched_parts : (t : Span → Bool) (es low high : List CodeSpan) → es ≡ low ++ high → filter t (map span_of es) ≡ filter t (map span_of low) ++ filter t (map span_of high)
+touched_parts t es low high e = ap (λ l. filter t (map span_of l)) e ∙ (ap (filter t) (map-append span_of low high) ∙ filter-append t (map span_of low) (map span_of high))
+
+-- the one of a list of one
+pub one_here : {X : Type 0} (xs : List X) (x : X) → length xs ≡ 1 → x ≡ get_or xs 0 x → xs ≡ x ∷ []
+one_here [] x one is = absurd (omega (arith, one))
+one_here (y ∷ []) x one is = ap (λ z. z ∷ []) (sym is)
+one_here (y ∷ z ∷ xs) x one is = absurd (omega (arith, one))

@@ -14,6 +14,7 @@ use Rattle.czi_plan.specs.Changing.{entries_in, tiles_before, tiles_behind, tile
 use Rattle.czi_plan.specs.Directory.{back_in, middle_in}
 use Rattle.czi_plan.specs.Kind.{of_attachments}
 use Rattle.czi_plan.specs.declared.tiles.Parts.{Parts}
+use Rattle.czi_format.specs.declared.numbers.TheConstants.{CONTENTS}
 
 -- the attachment, and the metadata, with these contents
 abbrev pub attachment_in : CodeAttInfo → List ℕ → Attachment
@@ -45,7 +46,7 @@ att_count p = length p.before.now + (length p.brought.now + length p.behind.now)
 
 -- how long the data of an attachment of so many bytes is with padding
 abbrev pub att_padded : ℕ → ℕ
-att_padded n = round32 (256 + n)
+att_padded n = round32 (CONTENTS + n)
 
 -- The item of an attachment of so many bytes that lies in a span.
 pub record IsItemOf (info : CodeAttInfo) (size : ℕ) (span : CodeSpan) (i : AttItem) : Type 0 where
@@ -53,4 +54,4 @@ pub record IsItemOf (info : CodeAttInfo) (size : ℕ) (span : CodeSpan) (i : Att
   pub span_is : i.span ≡ span
   pub id : (att_item_of i).segment.id ≡ attachment_id
   pub size_is : i.size ≡ size
-  pub used : i.head.used ≡ 256 + size
+  pub used : i.head.used ≡ CONTENTS + size

@@ -5,6 +5,7 @@ use Rattle.czi_format.specs.Space.{without, with_freed, deleted_after}
 use Rattle.czi_format.specs.Span.{Span, end_of, span_le, sorted, IsWhole, LiesInOne}
 use Rattle.czi_machine.specs.Cover.{cover}
 use Rattle.czi_space.specs.State.{AreExtents, MeetsNone}
+use Rattle.czi_format.specs.declared.numbers.TheConstants.{HEADER_FRONT}
 
 -- each in turn lies in one extent, of what the earlier ones left, or at or past the length
 abbrev pub AreUsed : ℕ → List Span → List Span → Type 0
@@ -24,9 +25,9 @@ touches s t = nat_le t.at (end_of s) && nat_le s.at (end_of t)
 abbrev pub is_touched : (used freed : List Span) → Span → Bool
 is_touched used freed s = list_any (touches s) (used ++ freed)
 
--- a span behind the first 112 bytes, with room for a header, that ends at or below a place
+-- a span behind the front of the file header, with room for a header, that ends at or below a place
 pub record IsLong (top : ℕ) (s : Span) : Type 0 where
-  pub far : 112 ≤ s.at
+  pub far : HEADER_FRONT ≤ s.at
   pub long : 32 ≤ s.len
   pub ends : end_of s ≤ top
 

@@ -1,10 +1,10 @@
 -- The two lists of which an image has a directory: the subblocks, and the attachments.
-use Rattle.std.specs.Prelude.{◌≡◌, ℕ, ◌+◌, ◌*◌, List, [], ◌∷◌, length, Option}
+use Rattle.std.specs.Prelude.{◌≡◌, ℕ, ◌+◌, ◌*◌, ◌≤◌, List, [], ◌∷◌, length, Option}
 use Rattle.czi_format.specs.Data.{attachment_data, attdir_data, directory_data, subblock_data}
 use Rattle.czi_format.specs.Document.{Attachment, Subblock}
 use Rattle.czi_format.specs.Entry.{A1, Entry, IsA1, IsEntry, a1_bytes, a1_len, entry_bytes, entry_len}
 use Rattle.czi_format.specs.Layout.{Place}
-use Rattle.czi_format.specs.Segment.{Segment, attdir_id, directory_id}
+use Rattle.czi_format.specs.Segment.{Segment, attachment_id, attdir_id, directory_id, subblock_id}
 use Rattle.czi_format.specs.Span.{Span}
 use Rattle.czi_image.specs.Holds.{att_item_place, tile_place}
 use Rattle.czi_image.specs.View.{att_item_of, tile_of}
@@ -27,9 +27,10 @@ pub record Kind (C E S : Type 0) : Type 1 where
   pub items : Index → List C
   pub directory : Index → Option DirItem
   pub most : ℕ
-  -- where an item lies, its segment, and its entry
+  -- where an item lies, its segment and the id of such segments, and its entry
   pub place : C → Place
   pub segment : C → Segment
+  pub item_id : List ℕ
   pub entry : C → E
   -- the place of the directory's pointer in the file header, its id, how much of its data stands before the entries, and the data
   pub pointer : ℕ
@@ -71,6 +72,7 @@ of_subblocks = record {
   most = MOST_SUBBLOCKS;
   place = tile_place;
   segment = λ t. (tile_of t).segment;
+  item_id = subblock_id;
   entry = λ t. (tile_of t).entry;
   pointer = DIRECTORY_POSITION;
   id = directory_id;
@@ -94,6 +96,7 @@ of_attachments = record {
   most = MOST_ATTACHMENTS;
   place = att_item_place;
   segment = λ i. (att_item_of i).segment;
+  item_id = attachment_id;
   entry = λ i. (att_item_of i).entry;
   pointer = ATTDIR_POSITION;
   id = attdir_id;
@@ -113,3 +116,7 @@ of_attachments = record {
 -- where an item lies
 abbrev pub span_in : {C E S : Type 0} → Kind C E S → C → Span
 span_in k i = (k.place i).span
+
+-- a segment of a kind, with sound sizes
+abbrev pub IsOfKind : List ℕ → Segment → Type 0
+IsOfKind id s = (s.id ≡ id) × (s.used ≤ s.allocated)

@@ -1,5 +1,5 @@
 -- What becomes of a directory that lists other items, and what a plan has of it.
-use Rattle.std.specs.Prelude.{◌≡◌, ⊤, ℕ, ◌+◌, ◌-◌, ◌≤◌, List, [], ◌∷◌, ◌++◌, length, map, max, sum, flat_map, Bool, true, false, ◌&&◌, ◌||◌, nat_le, nat_lt, Option, Some, None, Ok}
+use Rattle.std.specs.Prelude.{◌≡◌, ⊤, ℕ, ◌+◌, ◌-◌, ◌≤◌, List, [], ◌∷◌, ◌++◌, length, map, max, sum, flat_map, Bool, true, false, ◌&&◌, ◌||◌, ◌==◌, if◌then◌else◌, nat_le, nat_lt, Option, Some, None, Ok}
 use Rattle.std.specs.List.{AllByRecursion}
 use Rattle.czi_format.specs.Space.{Space, fit, use_span}
 use Rattle.czi_image.specs.Applied.{walks_on}
@@ -34,18 +34,18 @@ IsPlace x old size range space Patched = fits_in_place old size range ≡ true
 IsPlace x old size range space (New d) = (fits_in_place old size range ≡ false) × (fit space (need_of size) ≡ Ok (record { span = directory_span d; space = use_span space (directory_span d) }))
     × (d.walked ≡ (nat_lt d.span.at x.length || walks_on x))
 
--- there is room for the data of a new one
-abbrev pub HasRoomFor : DirectoryChange → ℕ → Type 0
-HasRoomFor Kept room = ⊤
-HasRoomFor Patched room = ⊤
-HasRoomFor (New d) room = d.span.len - 32 ≤ room
+-- there is room for the range that is written in place, or for the data of a new one
+abbrev pub HasRoomFor : DirectoryChange → ℕ → ℕ → Type 0
+HasRoomFor Kept range room = ⊤
+HasRoomFor Patched range room = range ≤ room
+HasRoomFor (New d) range room = d.span.len - 32 ≤ room
 
 -- what it needs to be planned
-abbrev pub IsReady : Option DirItem → ℕ → ℕ → DirectoryChange → Type 0
-IsReady old size room Kept = ⊤
-IsReady None size room Patched = ⊥
-IsReady (Some d) size room Patched = has_room d size
-IsReady old size room (New d) = has_room d size × (d.span.len - 32 ≤ room)
+abbrev pub IsReady : Option DirItem → ℕ → ℕ → ℕ → DirectoryChange → Type 0
+IsReady old size range room Kept = ⊤
+IsReady None size range room Patched = ⊥
+IsReady (Some d) size range room Patched = has_room d size × (range ≤ room)
+IsReady old size range room (New d) = has_room d size × (d.span.len - 32 ≤ room)
 
 -- Entries of either kind: how many bytes, and the length of a directory's data without padding
 abbrev pub entries_len : {C E S : Type 0} → Kind C E S → List E → ℕ
@@ -53,6 +53,11 @@ entries_len k es = sum (map k.len es)
 
 abbrev pub size_in : {C E S : Type 0} → Kind C E S → List E → ℕ
 size_in k es = k.head + entries_len k es
+
+-- how long the parts are where entries of so many bytes make room for others: what is behind them stays where as many bytes
+-- come as leave, and is written too where not
+abbrev pub sizes_with : (front brought leaving behind : ℕ) → Sizes
+sizes_with front brought leaving behind = if brought == leaving then record { front = front; middle = brought; back = behind } else record { front = front; middle = brought + behind; back = 0 }
 
 -- how long the parts of its data are, the front with what the data begins with
 pub record AreSizes {C E S : Type 0} (k : Kind C E S) (s : Sizes) (front middle back : List E) : Type 0 where
@@ -76,13 +81,13 @@ pub record Writes {C E S : Type 0} (k : Kind C E S) (d : DirItem) (es : List E) 
   pub writes : new.writes.items ≡ old.writes.items ++ (d.span.at + 32, piece) ∷ []
   pub used : new.used.items ≡ old.used.items ++ d.span ∷ []
   pub end : new.length ≡ max old.length (d.span.at + d.span.len)
-  pub others : new ≡ record old { writes = new.writes; used = new.used; length = new.length }
+  pub others : new ≡ record old { writes = new.writes; used = new.used; length = new.length; marks = new.marks }
   pub marks : after ≡ before ++ pointer_mark k.pointer d.span.at ∷ head_mark (record { at = d.span.at; id = k.id; allocated = d.span.len - 32; used = size_in k es }) ∷ []
 
 abbrev pub Lists : {C E S : Type 0} → Kind C E S → Option DirItem → DirectoryChange → (front middle back : List E) → Region → (old new : EditPlan) → (marks_before marks_after : List Bytes) → Type 0
 Lists k was Kept front middle back region old new marks more = (new ≡ old) × (more ≡ marks)
 Lists k None Patched front middle back region old new marks more = ⊥
-Lists k (Some d) Patched front middle back region old new marks more = (new ≡ old) × Patches k d front middle back marks more
+Lists k (Some d) Patched front middle back region old new marks more = (new ≡ record old { marks = new.marks }) × Patches k d front middle back marks more
 Lists k was (New d) front middle back region old new marks more = Writes k d (front ++ (middle ++ back)) region old new marks more
 
 -- the pieces that there were are still ones, and have the bytes that they had

@@ -70,20 +70,26 @@ abbrev pub region_by : List Part → (entries attachments : ℕ) → ℕ
 region_by parts entries attachments = one_if (changes_tiles parts) * directory_room (DIRECTORY_FRONT + entries + brought_by parts)
     + one_if (changes_attachments parts) * directory_room (ATTDIR_FRONT + A1_LEN * attachments + brought_by parts)
 
--- Each inverse brings a header, uses a span and frees another, and so each directory does; a span that is used leaves two
--- DELETED extents, and one that is freed makes one. A directory has three more links, and the metadata a pointer.
-abbrev pub links_by : List Part → ℕ
-links_by parts = 4 * length parts + 6 * directories_by parts + 1
+-- How much memory the lists take for so many edits, which write so many segments and bring so many directories: each edit brings
+-- a header, uses a span and frees another, and so does each directory; a span that is used leaves two DELETED extents, and one
+-- that is freed makes one. A directory has three more links, and the metadata a pointer. A span that is used touches at most
+-- three extents, and one that is freed two.
+abbrev pub links_for : ℕ → ℕ → ℕ
+links_for edits directories = 4 * edits + 6 * directories + 1
+
+abbrev pub need_of_lists : (edits directories region writes : ℕ) → Need
+need_of_lists edits directories region writes = record {
+  region = region;
+  writes = writes;
+  links = links_for edits directories;
+  link_bytes = 32 * links_for edits directories + 65536 * directories;
+  spans = edits + directories;
+  touched = 12 * (edits + directories);
+}
 
 -- What an inverse needs in an index with entries of so many bytes, and so many attachments.
 abbrev pub need_by : List Part → (entries attachments : ℕ) → Need
-need_by parts entries attachments = record {
-  region = region_by parts entries attachments;
-  writes = directories_by parts;
-  links = links_by parts;
-  link_bytes = 32 * links_by parts + 65536 * directories_by parts;
-  spans = length parts + directories_by parts;
-}
+need_by parts entries attachments = need_of_lists (length parts) (directories_by parts) (region_by parts entries attachments) (directories_by parts)
 
 -- none of the numbers is less
 pub record IsWithin (n m : Need) : Type 0 where
@@ -92,6 +98,7 @@ pub record IsWithin (n m : Need) : Type 0 where
   pub links : n.links ≤ m.links
   pub link_bytes : n.link_bytes ≤ m.link_bytes
   pub spans : n.spans ≤ m.spans
+  pub touched : n.touched ≤ m.touched
 
 -- none of them falls where one of the index's numbers rises
 abbrev pub NeedsRise : Type 0
@@ -108,6 +115,38 @@ pub record HasSpare (n : Need) (p : EditPlan) : Type 0 where
   pub tiles : vec_len p.change.tiles + n.spans ≤ vec_capacity p.change.tiles
   pub attachments : vec_len p.change.attachments + n.spans ≤ vec_capacity p.change.attachments
   pub dimensions : n.spans ≤ vec_len p.dimensions
+  pub marks : vec_len p.marks + n.links ≤ vec_capacity p.marks
+  pub dead : vec_len p.dead + n.spans ≤ vec_capacity p.dead
+  pub touched : n.touched ≤ p.touched.spare
+
+-- It has memory for so many links with so many bytes, and for so many spans of each kind, of which some may be put already.
+pub record HasMemory (count size spans : ℕ) (p : EditPlan) : Type 0 where
+  pub links : count ≤ p.links.spare_links
+  pub link_bytes : size ≤ p.links.spare_bytes
+  pub used : spans ≤ vec_capacity p.used
+  pub freed : spans ≤ vec_capacity p.freed
+  pub held : spans ≤ vec_capacity p.held
+  pub tiles : spans ≤ vec_capacity p.change.tiles
+  pub attachments : spans ≤ vec_capacity p.change.attachments
+  pub marks : count ≤ vec_capacity p.marks
+  pub dead : spans ≤ vec_capacity p.dead
+  pub touched : 12 * spans ≤ p.touched.spare
+
+-- it keeps what memory it has
+abbrev pub KeepsMemory : EditPlan → EditPlan → Type 0
+KeepsMemory old new = (count size spans : ℕ) → HasMemory count size spans old → HasMemory count size spans new
+
+-- one write more stands in its memory
+pub record WritesOne (old new : EditPlan) : Type 0 where
+  pub len : vec_len new.writes ≡ vec_len old.writes + 1
+  pub capacity : vec_capacity old.writes ≤ vec_capacity new.writes
+
+-- what an edit of a list, and one of the metadata, take: a header, a directory, and the headers of DELETED extents
+abbrev pub HasActMemory : EditPlan → Type 0
+HasActMemory p = HasMemory 11 65888 2 p
+
+abbrev pub HasMetadataMemory : EditPlan → Type 0
+HasMetadataMemory p = HasMemory 5 160 1 p
 
 -- a plan of the same; only how much memory it has may differ
 pub record PlansSame (old new : EditPlan) : Type 0 where
@@ -122,3 +161,5 @@ pub record PlansSame (old new : EditPlan) : Type 0 where
   pub freed : new.freed.items ≡ old.freed.items
   pub held : new.held.items ≡ old.held.items
   pub length : new.length ≡ old.length
+  pub marks : new.marks.items ≡ old.marks.items
+  pub dead : new.dead.items ≡ old.dead.items

@@ -29,6 +29,7 @@ use Rattle.czi_plan.specs.Geometry.{AreUsed, AreFreed}
 use Rattle.czi_plan.specs.Pieces.{AreNear, last_end, pieces_of, writes_of}
 use Rattle.czi_plan.specs.declared.plan.EditPlan.{EditPlan}
 use Rattle.czi_links.specs.declared.numbers.TheConstants.{FIRST_PLACE, SLOT_LEN}
+use Rattle.czi_format.specs.declared.numbers.TheConstants.{HEADER_FRONT}
 
 -- each place of it lies in a DELETED extent, past its header and outside the held spans, or at or past the length
 abbrev pub LiesFree : MapState → Bytes → Type 0
@@ -69,7 +70,7 @@ pub record IsPlan (x : Index) (m : MapState) (region : Region) (p : EditPlan) : 
   -- the writes are pieces of the region, go where nothing is needed, and leave no long gap
   pub staged : AllByRecursion (λ (w : ℕ × Range). IsPiece region w.1) p.writes.items
   pub free : AllByRecursion (LiesFree m) (writes_of region p)
-  pub far : AllByRecursion (λ (w : Bytes). 112 ≤ w.place) (writes_of region p)
+  pub far : AllByRecursion (λ (w : Bytes). HEADER_FRONT ≤ w.place) (writes_of region p)
   pub near : AreNear m.length (writes_of region p)
   pub reach : p.length ≤ last_end m.length (writes_of region p)
   pub fits : last_end m.length (writes_of region p) ≤ 2 ^ 62

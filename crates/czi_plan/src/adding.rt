@@ -19,7 +19,6 @@ use czi_format::MOST_SUBBLOCKS;
 use czi_image::Index;
 use czi_region::Region;
 use czi_space::Map;
-use std::alloc::Global;
 
 /// Plans the addition of a subblock, which comes behind all others.
 ///
@@ -33,7 +32,6 @@ use std::alloc::Global;
 /// `Full` exactly where the subblock or a new directory has no place, and else `Memory`. Nothing is said of `region` and
 /// `out` then.
 pub fn plan_add(
-    alloc: Global,
     index: &Index,
     space: &Map,
     info: &EntryInfo,
@@ -57,5 +55,5 @@ pub fn plan_add(
 {
     let new = NewSubblock::new(info, meta, pixels, tail);
     let seat = Seat::Before(index.tiles.len());
-    plan_brought(alloc, index, space, seat, &new, region, out)
+    plan_brought(index, space, seat, &new, region, out)
 }

@@ -8,22 +8,23 @@ ghost use Rattle.czi_image.specs.View.{att_item_of};
 ghost use Rattle.czi_image.specs.declared.change.Act.TheVariants.{Out};
 ghost use Rattle.czi_machine.specs.Change.{into, out as taken_out, put};
 ghost use Rattle.czi_machine.specs.Edit.{in_attachments};
-ghost use Rattle.czi_region.specs.Pieces.{bytes_put};
+ghost use Rattle.czi_region.specs.Pieces.{bytes_put, room};
 ghost use Rattle.czi_space.specs.State.{space_of};
 ghost use Rattle.czi_plan.specs.Attaching.{attachment_in};
 ghost use Rattle.czi_plan.specs.Bringing.{IsSeat, act_at};
-ghost use Rattle.czi_plan.specs.Changing.{Stages, Starts, range_after, size_after};
+ghost use Rattle.czi_plan.specs.Changing.{Stages, Starts, edited, range_after, size_after};
 ghost use Rattle.czi_plan.specs.Conditions.{IsEmpty, IsMapOf};
 ghost use Rattle.czi_plan.specs.Does.{Does, HasNoPlan};
 ghost use Rattle.czi_plan.specs.Kind.{of_attachments};
-ghost use Rattle.czi_plan.specs.Listing.{IsPlace};
+ghost use Rattle.czi_plan.specs.Listing.{HasRoomFor, IsPlace};
+ghost use Rattle.czi_plan.specs.Need.{HasSpare, need_of_lists};
 ghost use Rattle.czi_plan.specs.Plan.{IsPlan};
 ghost use Rattle.czi_plan.specs.Search.{attachment_with};
 
 use crate::attachment_acts::{new_attachment, stage_attached, stage_attachment_act};
 use crate::attachments::{att_parts, att_sizes};
 use crate::bringing::Seat;
-use crate::changing::make_room;
+use crate::changing::take_memory;
 use crate::listing::plan_directory;
 use crate::names::{attachment_key, attachment_with};
 use crate::placing::place;
@@ -34,28 +35,20 @@ use czi_format::MOST_ATTACHMENTS;
 use czi_image::{Act, Index};
 use czi_region::Region;
 use czi_space::Map;
-use std::alloc::{AllocError, Global};
 
-/// Plans what the removal of the attachment at a place writes, once it is known what becomes of the directory.
-fn stage_detachment(
-    alloc: Global,
-    index: &Index,
-    space: &Map,
-    i: usize,
-    region: &mut Region,
-    out: &mut EditPlan,
-) -> Result<(), AllocError>
+/// Plans what the removal of the attachment at a place writes, once it is known what becomes of the directory. It takes no memory.
+fn stage_detachment(index: &Index, space: &Map, i: usize, region: &mut Region, out: &mut EditPlan)
     requires starts { Starts of_attachments space.now [] out.old }
     requires no_writes { out.old.writes.items ≡ [] }
-    requires reset { bytes_put region.old ≡ [] }
+    requires no_marks { out.old.marks.items ≡ [] }
     requires of_index { IsMapOf index.now space.now }
     requires inside { i < length index.now.attachments.items }
     requires place { IsPlace index.now index.now.attdir (size_after of_attachments (Out i) index.now) (range_after of_attachments (Out i) index.now) (space_of space.now) out.old.change.attdir }
-    ensures { OnOk result (Stages of_attachments index.now space.now (Out i) (taken_out i) region.new out.old.change.attdir out.new) }
+    requires room { HasRoomFor out.old.change.attdir (range_after of_attachments (Out i) index.now) (room region.old) }
+    requires spare { HasSpare (need_of_lists 1 1 0 1) out.old }
+    ensures { Stages of_attachments index.now space.now (Out i) (edited (taken_out i)) region.new out.old.change.attdir out.new }
 {
-    make_room(0, &out.change.attdir, region)?;
-    let marks = Vec::new(alloc);
-    stage_attachment_act(alloc, index, space, Act::Out(i), marks, region, out)
+    stage_attachment_act(index, space, Act::Out(i), region, out);
 }
 
 /// Plans the removal of the attachment at a place of the directory, as `plan_detach` does.
@@ -65,7 +58,6 @@ fn stage_detachment(
 /// `Full` exactly where the directory isn't changed in place and a new one has no place, and else `Memory`. Nothing is
 /// said of `region` and `out` then.
 pub fn plan_detach_at(
-    alloc: Global,
     index: &Index,
     space: &Map,
     i: usize,
@@ -87,14 +79,15 @@ pub fn plan_detach_at(
     let sizes = att_sizes(&parts);
     let (size, range) = (sizes.total(), sizes.middle);
     out.change.attdir = plan_directory(index, space, &[], &index.attdir, size, range)?;
-    stage_detachment(alloc, index, space, i, region, out)?;
+    let change = out.change.attdir;
+    take_memory(0, range, change, region, out)?;
+    stage_detachment(index, space, i, region, out);
     Ok(())
 }
 
 /// Plans an edit that brings an attachment: its place is found, then that of the directory in the space that is left, and
-/// only then memory is asked for.
+/// only then memory is asked for, all at once.
 fn plan_attached(
-    alloc: Global,
     index: &Index,
     space: &Map,
     seat: Seat,
@@ -121,7 +114,9 @@ fn plan_attached(
     let sizes = att_sizes(&parts);
     let (size, range) = (sizes.total(), sizes.middle);
     out.change.attdir = plan_directory(index, space, &[span], &index.attdir, size, range)?;
-    stage_attached(alloc, index, space, seat, &item, bytes, region, out)?;
+    let change = out.change.attdir;
+    take_memory(att_size(bytes.len()), range, change, region, out)?;
+    stage_attached(index, space, seat, &item, bytes, region, out);
     Ok(())
 }
 
@@ -137,7 +132,6 @@ fn plan_attached(
 /// `Full` exactly where the attachment or a new directory has no place, and else `Memory`. Nothing is said of `region` and
 /// `out` then.
 pub fn plan_attach(
-    alloc: Global,
     index: &Index,
     space: &Map,
     info: &AttInfo,
@@ -156,7 +150,7 @@ pub fn plan_attach(
     ensures full { IfErr result (HasNoPlan index.now space.now (in_attachments (into (length index.now.attachments.items) (attachment_in info.now bytes.now)))) }
 {
     let seat = Seat::Before(index.attachments.len());
-    plan_attached(alloc, index, space, seat, info, bytes, region, out)
+    plan_attached(index, space, seat, info, bytes, region, out)
 }
 
 /// Plans the replacement of the attachment at a place of the directory, as `plan_reattach` does.
@@ -166,7 +160,6 @@ pub fn plan_attach(
 /// `Full` exactly where the attachment or a new directory has no place, and else `Memory`. Nothing is said of `region` and
 /// `out` then.
 pub fn plan_reattach_at(
-    alloc: Global,
     index: &Index,
     space: &Map,
     i: usize,
@@ -185,7 +178,7 @@ pub fn plan_reattach_at(
     ensures held { OnOk result (length out.new.held.items ≤ 1) }
     ensures full { IfErr result (HasNoPlan index.now space.now (in_attachments (put i (attachment_in info.now bytes.now)))) }
 {
-    plan_attached(alloc, index, space, Seat::Over(i), info, bytes, region, out)
+    plan_attached(index, space, Seat::Over(i), info, bytes, region, out)
 }
 
 /// Plans the replacement of the first attachment that has the name of the new one, up to its first zero byte. The new one stands
@@ -200,7 +193,6 @@ pub fn plan_reattach_at(
 /// `Full` exactly where the attachment or a new directory has no place, and else `Memory`. Nothing is said of `region` and
 /// `out` then.
 pub fn plan_reattach(
-    alloc: Global,
     index: &Index,
     space: &Map,
     info: &AttInfo,
@@ -219,7 +211,7 @@ pub fn plan_reattach(
     ensures full { IfErr result (λ fault. (i : ℕ) → attachment_with (attachment_key (att_of info.now)) (map att_item_of index.now.attachments.items) ≡ Some i → HasNoPlan index.now space.now (in_attachments (put i (attachment_in info.now bytes.now))) fault) }
 {
     let i = attachment_with(index, attachment_key(info)).unwrap();
-    plan_reattach_at(alloc, index, space, i, info, bytes, region, out)
+    plan_reattach_at(index, space, i, info, bytes, region, out)
 }
 
 /// Plans the removal of the first attachment with a name.
@@ -234,7 +226,6 @@ pub fn plan_reattach(
 /// `Full` exactly where the directory isn't changed in place and a new one has no place, and else `Memory`. Nothing is
 /// said of `region` and `out` then.
 pub fn plan_detach(
-    alloc: Global,
     index: &Index,
     space: &Map,
     name: &[u8],
@@ -251,5 +242,5 @@ pub fn plan_detach(
     ensures full { IfErr result (λ fault. (i : ℕ) → attachment_with name.now (map att_item_of index.now.attachments.items) ≡ Some i → HasNoPlan index.now space.now (in_attachments (taken_out i)) fault) }
 {
     let i = attachment_with(index, name).unwrap();
-    plan_detach_at(alloc, index, space, i, region, out)
+    plan_detach_at(index, space, i, region, out)
 }

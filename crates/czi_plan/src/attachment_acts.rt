@@ -1,35 +1,36 @@
 //! The plan of one act on the attachments, once places were found for what it brings and for their directory.
 
-ghost use Rattle.std.specs.Prelude.{◌≡◌, ℕ, ◌+◌, ◌-◌, ◌^◌, ◌≤◌, ◌++◌, ◌∷◌, ◌||◌, [], Ok, length, map, max, nat_lt, IfOk, OnOk};
-ghost use Rattle.std.specs.List.{AllByRecursion};
+ghost use Rattle.std.specs.Prelude.{◌≡◌, ℕ, ◌+◌, ◌-◌, ◌^◌, ◌<◌, ◌≤◌, ◌++◌, ◌∷◌, ◌||◌, [], Ok, length, map, max, nat_lt, vec_len, vec_capacity};
 ghost use Rattle.czi_format.specs.Document.{Attachment};
 ghost use Rattle.czi_format.specs.Space.{fit, use_span};
 ghost use Rattle.czi_image.specs.Applied.{walks_on};
 ghost use Rattle.czi_image.specs.Change.{AreWithin, act_of};
 ghost use Rattle.czi_image.specs.View.{att_item_of};
-ghost use Rattle.czi_machine.specs.Change.{Change};
 ghost use Rattle.czi_machine.specs.Places.{attachment_need};
 ghost use Rattle.czi_machine.specs.Puts.{IsAttachment};
 ghost use Rattle.czi_num.specs.Span.{span_of};
-ghost use Rattle.czi_region.specs.Pieces.{bytes_put, room};
+ghost use Rattle.czi_machine.specs.Change.{Change};
+ghost use Rattle.czi_region.specs.Pieces.{room};
+ghost use Rattle.czi_region.specs.declared.block.Region.{Region as TheRegion};
 ghost use Rattle.czi_space.specs.State.{space_of};
 ghost use Rattle.czi_plan.specs.Attaching.{IsItemOf, att_padded, attachment_in};
 ghost use Rattle.czi_plan.specs.Bringing.{IsSeat, act_at};
-ghost use Rattle.czi_plan.specs.Changing.{Brings, IsNew, IsStaged, Stages, Starts, new_marks, new_spans, range_after, size_after, space_behind, tiles_before, tiles_behind, tiles_brought};
+ghost use Rattle.czi_plan.specs.Changing.{Begins, IsNew, IsStaged, Origin, Stages, Starts, edited, new_marks, range_after, size_after, tiles_before, tiles_behind, tiles_brought};
 ghost use Rattle.czi_plan.specs.Conditions.{IsMapOf};
 ghost use Rattle.czi_plan.specs.Kind.{of_attachments};
 ghost use Rattle.czi_plan.specs.Listing.{HasRoomFor, IsPlace};
-ghost use Rattle.czi_plan.specs.Marks.{IsSized, head_mark, mark_of};
+ghost use Rattle.czi_plan.specs.Marks.{AddsMarks, AreMarks, head_mark};
+ghost use Rattle.czi_plan.specs.Need.{HasActMemory, HasSpare, KeepsMemory, WritesOne, need_of_lists};
 
 use crate::attachments::{att_parts, list_attachments};
 use crate::bringing::Seat;
-use crate::changing::make_room;
 use crate::directory::position_of;
 use crate::freeing::release_left;
-use crate::marks::{Mark, link, mark_header};
+use crate::marks::{link, mark_header};
 use crate::placing::walks_at;
 use crate::plan::EditPlan;
-use czi_att::{att_size, stage_att};
+use crate::spare::put;
+use czi_att::stage_att;
 use czi_doc::{AttInfo, DATA_LIMIT};
 use czi_format::{CONTENTS, MOST_ATTACHMENTS};
 use czi_image::{Act, AttItem, Index};
@@ -37,44 +38,38 @@ use czi_num::Span;
 use czi_region::Region;
 use czi_seg::{SegHeader, SegId};
 use czi_space::Map;
-use std::alloc::{AllocError, Global};
 
-/// Plans an act on the attachments once what it brings is staged, and it is known what becomes of their directory.
+/// Plans an act on the attachments once what it brings is staged, and it is known what becomes of their directory. It takes no
+/// memory.
 pub fn stage_attachment_act(
-    alloc: Global,
     index: &Index,
     space: &Map,
     act: Act<AttItem>,
-    marks: Vec<Mark>,
     region: &mut Region,
     out: &mut EditPlan,
-) -> Result<(), AllocError>
+)
     requires of_index { IsMapOf index.now space.now }
     requires within { AreWithin (act ∷ []) (length index.now.attachments.items) }
     requires few { length (tiles_before act index.now.attachments.items ++ (tiles_brought act ++ tiles_behind act index.now.attachments.items)) ≤ MOST_ATTACHMENTS }
-    requires starts { Starts of_attachments space.now (new_spans of_attachments act) out.old }
-    requires brings { (c : Change Attachment) × Brings of_attachments index.now space.now region.old act c out.old.writes.items }
-    requires marks { map mark_of marks.items ≡ new_marks of_attachments act }
-    requires sized { AllByRecursion IsSized marks.items }
-    requires place { IsPlace index.now index.now.attdir (size_after of_attachments act index.now) (range_after of_attachments act index.now) (space_behind of_attachments act space.now) out.old.change.attdir }
-    requires room { HasRoomFor out.old.change.attdir (room region.old) }
-    ensures { OnOk result ((c : Change Attachment) → Brings of_attachments index.now space.now region.old act c out.old.writes.items → Stages of_attachments index.now space.now act c region.new out.old.change.attdir out.new) }
+    requires begins { (o : Origin (Change Attachment)) × Begins of_attachments index.now space.now region.old act o out.old.change.attdir out.old }
+    requires marks { (r : TheRegion) → AreMarks r out.old.marks.items (new_marks of_attachments act) }
+    requires room { HasRoomFor out.old.change.attdir (range_after of_attachments act index.now) (room region.old) }
+    requires writes_room { vec_len out.old.writes < vec_capacity out.old.writes }
+    requires memory { HasActMemory out.old }
+    ensures { (o : Origin (Change Attachment)) → Begins of_attachments index.now space.now region.old act o out.old.change.attdir out.old → Stages of_attachments index.now space.now act o region.new out.old.change.attdir out.new }
 {
-    let mut marks = marks;
     let parts = att_parts(&act, &index.attachments);
-    list_attachments(alloc, index, &parts, region, out, &mut marks)?;
-    let mut dead = Vec::new(alloc);
+    list_attachments(index, &parts, region, out);
     release_left(
         parts.leaving,
         &out.change.attdir,
         &index.attdir,
         &mut out.held,
         &mut out.freed,
-        &mut dead,
-    )?;
-    link(alloc, space, marks, &dead, out)?;
-    out.change.attachments.push(act)?;
-    Ok(())
+        &mut out.dead,
+    );
+    link(space, region, out);
+    put(&mut out.change.attachments, act);
 }
 
 /// The item of a new attachment in a span.
@@ -99,42 +94,38 @@ pub fn new_attachment(index: &Index, info: &AttInfo, size: usize, span: Span) ->
     }
 }
 
-/// Plans what a new attachment writes: its data are one write, from a piece of the region, and its header is a link.
-fn stage_attachment(
-    alloc: Global,
-    item: &AttItem,
-    bytes: &[u8],
-    region: &mut Region,
-    out: &mut EditPlan,
-    marks: &mut Vec<Mark>,
-) -> Result<(), AllocError>
+/// Plans what a new attachment writes: its data are one write, from a piece of the region, and its header is a link. It takes
+/// no memory.
+fn stage_attachment(item: &AttItem, bytes: &[u8], region: &mut Region, out: &mut EditPlan)
     requires bytes { length bytes.now ≤ DATA_LIMIT }
     requires item { IsItemOf item.now.info (length bytes.now) item.now.span item.now }
     requires long { item.now.span.len ≡ 32 + att_padded (length bytes.now) }
     requires room { item.now.span.len - 32 ≤ room region.old }
-    requires sized { AllByRecursion IsSized marks.old.items }
     requires no_writes { out.old.writes.items ≡ [] }
-    ensures says { OnOk result (IsAttachment (att_item_of item.now) (attachment_in item.now.info bytes.now)) }
-    ensures staged { OnOk result (IsStaged of_attachments region.new (attachment_in item.now.info bytes.now) item.now out.new.writes.items) }
-    ensures used { OnOk result (out.new.used.items ≡ out.old.used.items ++ item.now.span ∷ []) }
-    ensures end { OnOk result (out.new.length ≡ max out.old.length (item.now.span.at + item.now.span.len)) }
-    ensures others { OnOk result (out.new ≡ record out.old { writes = out.new.writes; used = out.new.used; length = out.new.length }) }
-    ensures marks { OnOk result (map mark_of marks.new.items ≡ map mark_of marks.old.items ++ head_mark (att_item_of item.now).segment ∷ []) }
-    ensures sized { OnOk result (AllByRecursion IsSized marks.new.items) }
-    ensures left { OnOk result (room region.new + (item.now.span.len - 32) ≡ room region.old) }
+    requires writes_room { vec_len out.old.writes < vec_capacity out.old.writes }
+    requires used_room { vec_len out.old.used < vec_capacity out.old.used }
+    requires marks_room { vec_len out.old.marks < vec_capacity out.old.marks }
+    ensures says { IsAttachment (att_item_of item.now) (attachment_in item.now.info bytes.now) }
+    ensures staged { IsStaged of_attachments region.new (attachment_in item.now.info bytes.now) item.now out.new.writes.items }
+    ensures used { out.new.used.items ≡ out.old.used.items ++ item.now.span ∷ [] }
+    ensures end { out.new.length ≡ max out.old.length (item.now.span.at + item.now.span.len) }
+    ensures others { out.new ≡ record out.old { writes = out.new.writes; used = out.new.used; length = out.new.length; marks = out.new.marks } }
+    ensures marks { (r : TheRegion) → AddsMarks r out.old.marks.items out.new.marks.items (head_mark (att_item_of item.now).segment ∷ []) }
+    ensures left { room region.new + (item.now.span.len - 32) ≡ room region.old }
+    ensures writes { WritesOne out.old out.new }
+    ensures memory { KeepsMemory out.old out.new }
 {
     let position = position_of(item.span.at);
     let piece = stage_att(region, &item.info, position, bytes);
-    out.writes.push((item.span.at + 32, piece))?;
-    out.used.push(item.span)?;
+    put(&mut out.writes, (item.span.at + 32, piece));
+    put(&mut out.used, item.span);
     out.length = out.length.max(item.span.at + item.span.len);
-    mark_header(alloc, item.span.at, &item.head, marks)?;
-    Ok(())
+    mark_header(item.span.at, &item.head, &mut out.marks);
 }
 
-/// Plans what a new attachment writes and changes, once places were found for it and for the directory.
+/// Plans what a new attachment writes and changes, once places were found for it and for the directory, and there is memory for
+/// all of it.
 pub fn stage_attached(
-    alloc: Global,
     index: &Index,
     space: &Map,
     seat: Seat,
@@ -142,22 +133,23 @@ pub fn stage_attached(
     bytes: &[u8],
     region: &mut Region,
     out: &mut EditPlan,
-) -> Result<(), AllocError>
+)
     requires bytes { length bytes.now ≤ DATA_LIMIT }
     requires starts { Starts of_attachments space.now [] out.old }
     requires no_writes { out.old.writes.items ≡ [] }
-    requires reset { bytes_put region.old ≡ [] }
+    requires no_marks { out.old.marks.items ≡ [] }
     requires of_index { IsMapOf index.now space.now }
     requires seat { IsSeat seat (length index.now.attachments.items) (MOST_ATTACHMENTS) }
     requires item { IsItemOf item.now.info (length bytes.now) item.now.span item.now }
     requires walked { item.now.walked ≡ (nat_lt item.now.span.at index.now.length || walks_on index.now) }
     requires fits { fit (space_of space.now) (attachment_need (attachment_in item.now.info bytes.now)) ≡ Ok (record { span = span_of item.now.span; space = use_span (space_of space.now) (span_of item.now.span) }) }
-    requires place { IsPlace index.now index.now.attdir (size_after of_attachments (act_at seat item.now) index.now) (range_after of_attachments (act_at seat item.now) index.now) (space_behind of_attachments (act_at seat item.now) space.now) out.old.change.attdir }
-    ensures { OnOk result (Stages of_attachments index.now space.now (act_at seat item.now) (act_of (act_at seat (attachment_in item.now.info bytes.now))) region.new out.old.change.attdir out.new) }
+    requires place { IsPlace index.now index.now.attdir (size_after of_attachments (act_at seat item.now) index.now) (range_after of_attachments (act_at seat item.now) index.now) (use_span (space_of space.now) (span_of item.now.span)) out.old.change.attdir }
+    requires room { (left : ℕ) → left + (item.now.span.len - 32) ≡ room region.old → HasRoomFor out.old.change.attdir (range_after of_attachments (act_at seat item.now) index.now) left }
+    requires own { item.now.span.len - 32 ≤ room region.old }
+    requires spare { HasSpare (need_of_lists 1 1 0 2) out.old }
+    ensures { Stages of_attachments index.now space.now (act_at seat item.now) (edited (act_of (act_at seat (attachment_in item.now.info bytes.now)))) region.new out.old.change.attdir out.new }
 {
-    make_room(att_size(bytes.len()), &out.change.attdir, region)?;
-    let mut marks = Vec::new(alloc);
-    stage_attachment(alloc, item, bytes, region, out, &mut marks)?;
+    stage_attachment(item, bytes, region, out);
     let act = seat.act(*item);
-    stage_attachment_act(alloc, index, space, act, marks, region, out)
+    stage_attachment_act(index, space, act, region, out);
 }

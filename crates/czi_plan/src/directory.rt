@@ -1,6 +1,6 @@
 //! The bytes of directories.
 
-ghost use Rattle.std.specs.Prelude.{◌≡◌, ◌+◌, ◌^◌, ◌<◌, ◌≤◌, pos, length, map, sum, replicate, flat_map, IfOk, OnOk};
+ghost use Rattle.std.specs.Prelude.{◌≡◌, ◌+◌, ◌^◌, ◌<◌, ◌≤◌, pos, length, map, sum, replicate, flat_map};
 ghost use Rattle.std.specs.List.{AllByRecursion};
 ghost use Rattle.czi_format.specs.Entry.{IsEntry, entry_len, entry_bytes};
 ghost use Rattle.czi_image.specs.View.{tile_of};
@@ -13,7 +13,6 @@ use czi_format::{DIRECTORY_FRONT, MOST_SUBBLOCKS};
 use czi_image::Tile;
 use czi_num::write_bytes;
 use czi_region::{Piece, Region, whole_piece, written_piece};
-use std::alloc::{AllocError, Global};
 
 /// A place as it is stored in a position.
 pub fn position_of(place: u64) -> i64
@@ -101,14 +100,17 @@ pub fn stage_directory(listing: &Listing, len: usize, region: &mut Region) -> Pi
     piece
 }
 
-/// The bytes of the entries that come and of those that move, which are so many.
-pub fn middle_bytes(alloc: Global, listing: &Listing, len: usize) -> Result<Vec<u8>, AllocError>
-    requires { len ≡ sum (map entry_len (listed_middle listing.now)) }
-    ensures bytes { IfOk result (λ v. v.items ≡ flat_map entry_bytes (listed_middle listing.now)) }
-    ensures entries { OnOk result (AllByRecursion IsEntry (listed_middle listing.now)) }
-    ensures size { OnOk result (length (flat_map entry_bytes (listed_middle listing.now)) ≡ len) }
+/// Puts the entries that come and those that move into a region, which have so many bytes.
+pub fn stage_middle(listing: &Listing, len: usize, region: &mut Region) -> Piece
+    requires len { len ≡ sum (map entry_len (listed_middle listing.now)) }
+    requires room { len ≤ room region.old }
+    ensures staged { PutsPiece region.old region.new result (flat_map entry_bytes (listed_middle listing.now)) }
+    ensures entries { AllByRecursion IsEntry (listed_middle listing.now) }
+    ensures whole { result.len ≡ len }
 {
-    let mut bytes = vec![in alloc; 0u8; len]?;
-    write_middle(listing, 0, &mut bytes);
-    Ok(bytes)
+    let piece = region.zeros(len);
+    write_middle(listing, 0, region.get_mut(&piece));
+    written_piece();
+    whole_piece();
+    piece
 }

@@ -1,20 +1,21 @@
 //! What leaves and is freed, and the map of free space once it is.
 
-ghost use Rattle.std.specs.Prelude.{◌≡◌, ◌⊎◌, ◌+◌, ◌*◌, ◌≤◌, ◌++◌, ◌∷◌, [], map, length, OnOk};
+ghost use Rattle.std.specs.Prelude.{◌≡◌, ◌⊎◌, ◌+◌, ◌*◌, ◌≤◌, ◌++◌, ◌<◌, ◌∷◌, [], map, length, vec_len, vec_capacity};
 ghost use Rattle.czi_format.specs.Layout.{Place};
 ghost use Rattle.czi_format.specs.Space.{without, with_all_freed, deleted_after};
 ghost use Rattle.czi_format.specs.Span.{span_le, sorted, IsWhole, LiesInOne};
 ghost use Rattle.czi_image.specs.Holds.{att_item_place, tile_place};
+ghost use Rattle.czi_machine.specs.Places.{can_be_used};
 ghost use Rattle.czi_num.specs.Span.{span_of};
 ghost use Rattle.czi_space.specs.State.{AreExtents, Has};
 ghost use Rattle.czi_plan.specs.Geometry.{AreFreed, AreUsed};
 ghost use Rattle.czi_plan.specs.Plan.{dead_of, left_directory, usable_of};
 
+use crate::spare::{put, put_all};
 use czi_image::{AttItem, DirItem, DirectoryChange, Tile};
 use czi_num::Span;
 use czi_space::Map;
 use czi_spans::sort_spans;
-use std::alloc::AllocError;
 
 /// An item that a directory lists.
 pub trait Listed {
@@ -54,38 +55,45 @@ impl Listed for AttItem {
     }
 }
 
-/// Frees a span: it is one that can be used again where the walk stands on it and it begins and ends at multiples
-/// of 32.
-pub fn release(
-    span: &Span,
-    walked: bool,
-    freed: &mut Vec<Span>,
-    dead: &mut Vec<Span>,
-) -> Result<(), AllocError>
-    ensures freed { OnOk result (map span_of freed.new.items ≡ map span_of freed.old.items ++ usable_of (record { span = span_of span.now; walked = walked } ∷ [])) }
-    ensures dead { OnOk result (map span_of dead.new.items ≡ map span_of dead.old.items ++ dead_of (record { span = span_of span.now; walked = walked } ∷ [])) }
+/// Whether a span can be used again: the walk stands on it, and it begins and ends at multiples of 32.
+pub fn is_usable(span: &Span, walked: bool) -> bool
+    ensures { result ≡ can_be_used (record { span = span_of span.now; walked = walked }) }
 {
-    if walked && span.at % 32 == 0 && span.len % 32 == 0 {
-        freed.push(*span)?;
+    walked && span.at % 32 == 0 && span.len % 32 == 0
+}
+
+/// Frees a span, which can be used again or not.
+pub fn release(span: &Span, walked: bool, freed: &mut Vec<Span>, dead: &mut Vec<Span>)
+    requires freed_room { vec_len freed.old < vec_capacity freed.old }
+    requires dead_room { vec_len dead.old < vec_capacity dead.old }
+    ensures freed { map span_of freed.new.items ≡ map span_of freed.old.items ++ usable_of (record { span = span_of span.now; walked = walked } ∷ []) }
+    ensures dead { map span_of dead.new.items ≡ map span_of dead.old.items ++ dead_of (record { span = span_of span.now; walked = walked } ∷ []) }
+    ensures freed_len { vec_len freed.new ≤ vec_len freed.old + 1 }
+    ensures dead_len { vec_len dead.new ≤ vec_len dead.old + 1 }
+    ensures freed_capacity { vec_capacity freed.old ≤ vec_capacity freed.new }
+    ensures dead_capacity { vec_capacity dead.old ≤ vec_capacity dead.new }
+{
+    if is_usable(span, walked) {
+        put(freed, *span);
     } else {
-        dead.push(*span)?;
+        put(dead, *span);
     }
-    Ok(())
 }
 
 /// Frees items that leave.
-fn release_items<I: Listed>(
-    items: &[I],
-    freed: &mut Vec<Span>,
-    dead: &mut Vec<Span>,
-) -> Result<(), AllocError>
-    ensures freed { OnOk result (map span_of freed.new.items ≡ map span_of freed.old.items ++ usable_of (map I.place items.now)) }
-    ensures dead { OnOk result (map span_of dead.new.items ≡ map span_of dead.old.items ++ dead_of (map I.place items.now)) }
+fn release_items<I: Listed>(items: &[I], freed: &mut Vec<Span>, dead: &mut Vec<Span>)
+    requires freed_room { vec_len freed.old + length items.now ≤ vec_capacity freed.old }
+    requires dead_room { vec_len dead.old + length items.now ≤ vec_capacity dead.old }
+    ensures freed { map span_of freed.new.items ≡ map span_of freed.old.items ++ usable_of (map I.place items.now) }
+    ensures dead { map span_of dead.new.items ≡ map span_of dead.old.items ++ dead_of (map I.place items.now) }
+    ensures freed_len { vec_len freed.new ≤ vec_len freed.old + length items.now }
+    ensures dead_len { vec_len dead.new ≤ vec_len dead.old + length items.now }
+    ensures freed_capacity { vec_capacity freed.old ≤ vec_capacity freed.new }
+    ensures dead_capacity { vec_capacity dead.old ≤ vec_capacity dead.new }
 {
     for item in items {
-        release(&item.span(), item.is_walked(), freed, dead)?;
+        release(&item.span(), item.is_walked(), freed, dead);
     }
-    Ok(())
 }
 
 /// Frees a directory for which there is a new one.
@@ -94,14 +102,17 @@ fn release_directory(
     directory: &Option<DirItem>,
     freed: &mut Vec<Span>,
     dead: &mut Vec<Span>,
-) -> Result<(), AllocError>
-    ensures freed { OnOk result (map span_of freed.new.items ≡ map span_of freed.old.items ++ usable_of (left_directory change.now directory.now)) }
-    ensures dead { OnOk result (map span_of dead.new.items ≡ map span_of dead.old.items ++ dead_of (left_directory change.now directory.now)) }
+)
+    requires freed_room { vec_len freed.old < vec_capacity freed.old }
+    requires dead_room { vec_len dead.old < vec_capacity dead.old }
+    ensures freed { map span_of freed.new.items ≡ map span_of freed.old.items ++ usable_of (left_directory change.now directory.now) }
+    ensures dead { map span_of dead.new.items ≡ map span_of dead.old.items ++ dead_of (left_directory change.now directory.now) }
+    ensures freed_capacity { vec_capacity freed.old ≤ vec_capacity freed.new }
+    ensures dead_capacity { vec_capacity dead.old ≤ vec_capacity dead.new }
 {
     if let (DirectoryChange::New(_), Some(old)) = (change, directory) {
-        release(&old.span, old.walked, freed, dead)?;
+        release(&old.span, old.walked, freed, dead);
     }
-    Ok(())
 }
 
 /// Frees items that leave, which are held, and a directory for which there is a new one.
@@ -112,19 +123,24 @@ pub fn release_left<I: Listed>(
     held: &mut Vec<Span>,
     freed: &mut Vec<Span>,
     dead: &mut Vec<Span>,
-) -> Result<(), AllocError>
+)
     requires no_held { held.old.items ≡ [] }
     requires no_freed { freed.old.items ≡ [] }
     requires no_dead { dead.old.items ≡ [] }
-    ensures held { OnOk result (map span_of held.new.items ≡ usable_of (map I.place leaving.now)) }
-    ensures freed { OnOk result (map span_of freed.new.items ≡ sorted span_le (usable_of (map I.place leaving.now ++ left_directory change.now directory.now))) }
-    ensures dead { OnOk result (map span_of dead.new.items ≡ dead_of (map I.place leaving.now ++ left_directory change.now directory.now)) }
+    requires held_room { length leaving.now ≤ vec_capacity held.old }
+    requires freed_room { length leaving.now + 1 ≤ vec_capacity freed.old }
+    requires dead_room { length leaving.now + 1 ≤ vec_capacity dead.old }
+    ensures held { map span_of held.new.items ≡ usable_of (map I.place leaving.now) }
+    ensures freed { map span_of freed.new.items ≡ sorted span_le (usable_of (map I.place leaving.now ++ left_directory change.now directory.now)) }
+    ensures dead { map span_of dead.new.items ≡ dead_of (map I.place leaving.now ++ left_directory change.now directory.now) }
+    ensures held_capacity { vec_capacity held.old ≤ vec_capacity held.new }
+    ensures freed_capacity { vec_capacity freed.old ≤ vec_capacity freed.new }
+    ensures dead_capacity { vec_capacity dead.old ≤ vec_capacity dead.new }
 {
-    release_items(leaving, held, dead)?;
-    freed.extend_from_slice(held)?;
-    release_directory(change, directory, freed, dead)?;
+    release_items(leaving, held, dead);
+    put_all(freed, held);
+    release_directory(change, directory, freed, dead);
     sort_spans(freed);
-    Ok(())
 }
 
 /// Takes a used span out of a map. One past its length was never in it.

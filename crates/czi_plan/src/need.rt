@@ -4,7 +4,7 @@ ghost use Rattle.std.specs.Prelude.{◌≡◌, ◌+◌, ◌*◌, ◌^◌, ◌≤
 ghost use Rattle.czi_format.specs.Entry.{entry_len as len_of};
 ghost use Rattle.czi_image.specs.View.{tile_of};
 ghost use Rattle.czi_image.specs.Summary.{entries_len};
-ghost use Rattle.czi_plan.specs.Need.{NeedsRise, brought_by, brought_len, changes_attachments, changes_tiles, directories_by, directory_room, links_by, need_by, of_attachments, of_subblocks, region_by};
+ghost use Rattle.czi_plan.specs.Need.{NeedsRise, brought_by, brought_len, changes_attachments, changes_tiles, directories_by, directory_room, need_by, need_of_lists, of_attachments, of_subblocks, region_by};
 
 use crate::listing::{LONGEST_RANGE, with_slack};
 use czi_dv::entry_len;
@@ -15,6 +15,9 @@ use czi_undo::{Inverse, Part};
 
 /// How many bytes of a header are a link.
 const HEADER_LEN: usize = 32;
+
+/// How many DELETED extents a span touches at most, and how many more come of it.
+const TOUCHED: usize = 12;
 
 /// How much memory a plan takes.
 #[derive(Clone, Copy, PartialEq, Eq)]
@@ -29,6 +32,45 @@ pub struct Need {
     pub link_bytes: usize,
     /// The spans that are used, those that are freed, and the items that come back: of each so many.
     pub spans: usize,
+    /// The DELETED extents that those spans touch, and what becomes of these.
+    pub touched: usize,
+}
+
+/// How many links there are at most for so many edits, which bring so many directories: each edit brings a header, uses a span
+/// and frees another, and so does each directory; a span that is used leaves two DELETED extents, and one that is freed makes
+/// one. A directory has three more links, and the metadata a pointer.
+fn links_for(edits: usize, directories: usize) -> usize
+    requires edits { edits ≤ 64 }
+    requires directories { directories ≤ 2 }
+    ensures { result ≡ 4 * edits + 6 * directories + 1 }
+{
+    4 * edits + 6 * directories + 1
+}
+
+/// How much memory the lists take for so many edits, which write so many segments and bring so many directories.
+fn need_of_lists(edits: usize, directories: usize, region: usize, writes: usize) -> Need
+    requires edits { edits ≤ 64 }
+    requires directories { directories ≤ 2 }
+    ensures { result ≡ need_of_lists edits directories region writes }
+{
+    let links = links_for(edits, directories);
+    let spans = edits + directories;
+    Need {
+        region,
+        writes,
+        links,
+        link_bytes: HEADER_LEN * links + LONGEST_RANGE * directories,
+        spans,
+        touched: TOUCHED * spans,
+    }
+}
+
+/// How much an edit takes that brings so many directories, without its region.
+pub(crate) fn need_of_edit(directories: usize) -> Need
+    requires { directories ≤ 1 }
+    ensures { result ≡ need_of_lists 1 directories 0 (1 + directories) }
+{
+    need_of_lists(1, directories, 0, 1 + directories)
 }
 
 /// Whether an inverse changes the list of subblocks.
@@ -128,12 +170,6 @@ pub fn need_of_inverse(index: &Index, inverse: &Inverse) -> Need
 {
     let parts = inverse.parts.as_slice();
     let directories = changes_tiles(parts) as usize + changes_attachments(parts) as usize;
-    let links = 4 * parts.len() + 6 * directories + 1;
-    Need {
-        region: region_by(parts, index.entries_len(), index.attachments.len()),
-        writes: directories,
-        links,
-        link_bytes: HEADER_LEN * links + LONGEST_RANGE * directories,
-        spans: parts.len() + directories,
-    }
+    let region = region_by(parts, index.entries_len(), index.attachments.len());
+    need_of_lists(parts.len(), directories, region, directories)
 }

@@ -1,14 +1,17 @@
 //! A plan, and why there is none.
 
 ghost use Rattle.std.specs.Prelude.{◌≡◌, ◌≤◌, vec_len, vec_capacity, OnOk};
+ghost use Rattle.czi_image.specs.Change.{IsNone};
 ghost use Rattle.czi_plan.specs.declared.plan.PlanFault.TheVariants.{Memory};
 
+use crate::marks::Mark;
 use crate::need::Need;
 use czi_doc::Dim;
-use czi_image::Change;
+use czi_image::{Change, DirectoryChange, Setting};
 use czi_links::Links;
 use czi_num::Span;
 use czi_region::Piece;
+use czi_space::Map;
 use std::alloc::{AllocError, Global};
 
 /// How many records the dimensions of a subblock are at most.
@@ -33,6 +36,12 @@ pub struct EditPlan {
     pub dimensions: Vec<Records>,
     /// The image's length afterwards.
     pub length: u64,
+    /// The links before they are put in order.
+    pub(crate) marks: Vec<Mark>,
+    /// The spans that can't be used again: each has a DELETED header of its own.
+    pub(crate) dead: Vec<Span>,
+    /// The DELETED extents that spans touch, and what becomes of these.
+    pub(crate) touched: Map,
     alloc: Global,
 }
 
@@ -83,22 +92,29 @@ impl EditPlan {
             held: Vec::new(alloc),
             dimensions: Vec::new(alloc),
             length: 0,
+            marks: Vec::new(alloc),
+            dead: Vec::new(alloc),
+            touched: Map::of_runs(alloc, Vec::new(alloc), 0),
             alloc,
         }
     }
 
     /// Takes everything out of the plan. Its memory stays for the next one.
     pub fn clear(&mut self)
-        ensures { IsEmpty self.new }
+        ensures empty { IsEmpty self.new }
+        ensures spare { (n : Need) → HasSpare n self.old → HasSpare n self.new }
     {
-        self.change.clear();
+        clear_change(&mut self.change);
         self.writes.clear();
         self.links.clear();
         self.used.clear();
         self.freed.clear();
         self.held.clear();
+        self.marks.clear();
+        self.dead.clear();
         self.length = 0;
     }
+
     /// Makes spare memory for as much as a need says. What is planned stays, also where there is no memory.
     pub fn reserve(&mut self, need: &Need) -> Result<(), AllocError>
         ensures spare { OnOk result (HasSpare need.now self.new) }
@@ -109,10 +125,26 @@ impl EditPlan {
         self.used.reserve(need.spans)?;
         self.freed.reserve(need.spans)?;
         self.held.reserve(need.spans)?;
+        self.marks.reserve(need.links)?;
+        self.dead.reserve(need.spans)?;
+        self.touched.reserve(need.touched)?;
         self.change.tiles.reserve(need.spans)?;
         self.change.attachments.reserve(need.spans)?;
         reserve_records(self.alloc, need.spans, &mut self.dimensions)
     }
+}
+
+/// Takes everything out of a change of the index. Its memory stays for the next one.
+fn clear_change(change: &mut Change)
+    ensures none { IsNone change.new }
+    ensures tiles { (vec_len change.new.tiles ≡ 0) × (vec_capacity change.new.tiles ≡ vec_capacity change.old.tiles) }
+    ensures attachments { (vec_len change.new.attachments ≡ 0) × (vec_capacity change.new.attachments ≡ vec_capacity change.old.attachments) }
+{
+    change.directory = DirectoryChange::Kept;
+    change.tiles.clear();
+    change.attdir = DirectoryChange::Kept;
+    change.attachments.clear();
+    change.metadata = Setting::Same;
 }
 
 /// Makes as many lists for the dimensions of subblocks.

@@ -6,17 +6,18 @@ ghost use Rattle.czi_image.specs.View.{tile_of};
 ghost use Rattle.czi_image.specs.declared.change.Act.TheVariants.{Out};
 ghost use Rattle.czi_machine.specs.Change.{out as taken_out};
 ghost use Rattle.czi_machine.specs.Edit.{in_subblocks};
-ghost use Rattle.czi_region.specs.Pieces.{bytes_put};
-ghost use Rattle.czi_plan.specs.Changing.{Stages, Starts, back_entries, front_entries, middle_entries, range_after, size_after};
+ghost use Rattle.czi_region.specs.Pieces.{bytes_put, room};
+ghost use Rattle.czi_plan.specs.Changing.{Stages, Starts, edited, back_entries, front_entries, middle_entries, range_after, size_after};
 ghost use Rattle.czi_plan.specs.Conditions.{IsEmpty, IsMapOf};
 ghost use Rattle.czi_plan.specs.Does.{Does, HasNoPlan};
-ghost use Rattle.czi_plan.specs.Listing.{AreSizes, IsPlace};
+ghost use Rattle.czi_plan.specs.Listing.{AreSizes, HasRoomFor, IsPlace};
+ghost use Rattle.czi_plan.specs.Need.{HasSpare, need_of_lists};
 ghost use Rattle.czi_plan.specs.Plan.{IsPlan};
 ghost use Rattle.czi_plan.specs.Search.{tile_with};
 ghost use Rattle.czi_space.specs.State.{space_of};
 ghost use Rattle.czi_plan.specs.Kind.{of_subblocks};
 
-use crate::changing::{make_room, stage_act};
+use crate::changing::{stage_act, take_memory};
 use crate::listing::plan_directory;
 use crate::plan::{EditPlan, PlanFault};
 use crate::search::tile_with;
@@ -25,30 +26,28 @@ use czi_doc::Dims;
 use czi_image::{Act, Index};
 use czi_region::Region;
 use czi_space::Map;
-use std::alloc::{AllocError, Global};
 
-/// Plans what the removal of the subblock at a place writes, once it is known what becomes of the directory.
+/// Plans what the removal of the subblock at a place writes, once it is known what becomes of the directory. It takes no memory.
 fn stage_removal(
-    alloc: Global,
     index: &Index,
     space: &Map,
     i: usize,
     sizes: &Sizes,
     region: &mut Region,
     out: &mut EditPlan,
-) -> Result<(), AllocError>
+)
     requires starts { Starts of_subblocks space.now [] out.old }
     requires no_writes { out.old.writes.items ≡ [] }
-    requires reset { bytes_put region.old ≡ [] }
+    requires no_marks { out.old.marks.items ≡ [] }
     requires of_index { IsMapOf index.now space.now }
     requires inside { i < length index.now.tiles.items }
     requires sizes { AreSizes of_subblocks sizes.now (front_entries of_subblocks (Out i) index.now.tiles.items) (middle_entries of_subblocks (Out i) index.now.tiles.items) (back_entries of_subblocks (Out i) index.now.tiles.items) }
     requires place { IsPlace index.now index.now.directory (size_after of_subblocks (Out i) index.now) (range_after of_subblocks (Out i) index.now) (space_of space.now) out.old.change.directory }
-    ensures { OnOk result (Stages of_subblocks index.now space.now (Out i) (taken_out i) region.new out.old.change.directory out.new) }
+    requires room { HasRoomFor out.old.change.directory sizes.now.middle (room region.old) }
+    requires spare { HasSpare (need_of_lists 1 1 0 1) out.old }
+    ensures { Stages of_subblocks index.now space.now (Out i) (edited (taken_out i)) region.new out.old.change.directory out.new }
 {
-    make_room(0, &out.change.directory, region)?;
-    let marks = Vec::new(alloc);
-    stage_act(alloc, index, space, Act::Out(i), sizes, marks, region, out)
+    stage_act(index, space, Act::Out(i), sizes, region, out);
 }
 
 /// Plans the removal of the subblock at a place of the directory, as `plan_remove` does.
@@ -58,7 +57,6 @@ fn stage_removal(
 /// `Full` exactly where the directory isn't changed in place and a new one has no place, and else `Memory`. Nothing is
 /// said of `region` and `out` then.
 pub fn plan_remove_at(
-    alloc: Global,
     index: &Index,
     space: &Map,
     i: usize,
@@ -78,7 +76,9 @@ pub fn plan_remove_at(
     let sizes = sizes_after(&index.tiles, index.entries_len(), i, i + 1, 0);
     let (size, range) = (sizes.total(), sizes.middle);
     out.change.directory = plan_directory(index, space, &[], &index.directory, size, range)?;
-    stage_removal(alloc, index, space, i, &sizes, region, out)?;
+    let change = out.change.directory;
+    take_memory(0, range, change, region, out)?;
+    stage_removal(index, space, i, &sizes, region, out);
     Ok(())
 }
 
@@ -97,7 +97,6 @@ pub fn plan_remove_at(
 /// `Full` exactly where the directory isn't changed in place and a new one has no place, and else `Memory`. Nothing is
 /// said of `region` and `out` then.
 pub fn plan_remove(
-    alloc: Global,
     index: &Index,
     space: &Map,
     dims: &Dims,
@@ -114,5 +113,5 @@ pub fn plan_remove(
     ensures full { IfErr result (λ fault. (i : ℕ) → tile_with (dims_of dims.now) (map tile_of index.now.tiles.items) ≡ Some i → HasNoPlan index.now space.now (in_subblocks (taken_out i)) fault) }
 {
     let i = tile_with(index, dims).unwrap();
-    plan_remove_at(alloc, index, space, i, region, out)
+    plan_remove_at(index, space, i, region, out)
 }

@@ -22,7 +22,6 @@ use czi_doc::{DATA_LIMIT, EntryInfo, TEXT_LIMIT};
 use czi_image::Index;
 use czi_region::Region;
 use czi_space::Map;
-use std::alloc::Global;
 
 /// Plans the replacement of the subblock at a place of the directory, as `plan_replace` does.
 ///
@@ -31,7 +30,6 @@ use std::alloc::Global;
 /// `Full` exactly where the subblock or a new directory has no place, and else `Memory`. Nothing is said of `region` and
 /// `out` then.
 pub fn plan_replace_at(
-    alloc: Global,
     index: &Index,
     space: &Map,
     i: usize,
@@ -55,7 +53,7 @@ pub fn plan_replace_at(
     ensures full { IfErr result (HasNoPlan index.now space.now (in_subblocks (put i (subblock_in info.now meta.now pixels.now tail.now)))) }
 {
     let new = NewSubblock::new(info, meta, pixels, tail);
-    plan_brought(alloc, index, space, Seat::Over(i), &new, region, out)
+    plan_brought(index, space, Seat::Over(i), &new, region, out)
 }
 
 /// Plans the replacement of the first subblock that has the key of the new one's dimensions. The new one stands in its
@@ -71,7 +69,6 @@ pub fn plan_replace_at(
 /// `Full` exactly where the subblock or a new directory has no place, and else `Memory`. Nothing is said of `region` and
 /// `out` then.
 pub fn plan_replace(
-    alloc: Global,
     index: &Index,
     space: &Map,
     info: &EntryInfo,
@@ -94,7 +91,5 @@ pub fn plan_replace(
     ensures full { IfErr result (λ fault. (i : ℕ) → tile_with (dims_of info.now.dims) (map tile_of index.now.tiles.items) ≡ Some i → HasNoPlan index.now space.now (in_subblocks (put i (subblock_in info.now meta.now pixels.now tail.now))) fault) }
 {
     let i = tile_with(index, &info.dims).unwrap();
-    plan_replace_at(
-        alloc, index, space, i, info, meta, pixels, tail, region, out,
-    )
+    plan_replace_at(index, space, i, info, meta, pixels, tail, region, out)
 }

@@ -1,14 +1,10 @@
 //! Items that an undo brings back, made from their held segments. Nothing here takes memory.
 
-ghost use Rattle.std.specs.Prelude.{◌≡◌, ◌+◌, ◌^◌, ◌≤◌, pos, length, Some, IsSome};
+ghost use Rattle.std.specs.Prelude.{◌≡◌, ◌+◌, ◌^◌, ◌≤◌, length, Some, IsSome};
 ghost use Rattle.czi_doc.specs.View.{att_of, info_of, records};
 ghost use Rattle.czi_format.specs.Segment.{attachment_id, header_at, metadata_id, subblock_id};
-ghost use Rattle.czi_image.specs.View.{att_item_of, meta_item_of, tile_of};
-ghost use Rattle.czi_machine.specs.Formers.{Lain};
-ghost use Rattle.czi_format.specs.Live.{AttItem as LiveAttItem, MetaItem as LiveMetaItem, Tile as LiveTile};
 ghost use Rattle.czi_seg.specs.View.{header_of};
-ghost use Rattle.czi_undo.specs.Stands.{IsAttachment, IsMetadata, IsTile};
-ghost use Rattle.czi_plan.specs.Undoing.{BeginsAsKind, IsOfKind, IsSoundHeld};
+ghost use Rattle.czi_plan.specs.Undoing.{BeginsAsKind, IsAttachmentBack, IsMetadataOf, IsSoundHeld, IsTileBack};
 
 use crate::plan::Records;
 use czi_doc::{AttInfo, Dim, Dims, EntryInfo};
@@ -59,9 +55,8 @@ fn info_in(info: &EntryInfo, memory: Records) -> EntryInfo
 pub fn tile_back(info: &EntryInfo, held: &HeldSegment, memory: Records) -> Tile
     requires sound { IsSoundHeld subblock_id held.now }
     requires ends { held.now.span.at + held.now.span.len ≤ 2 ^ 62 }
-    ensures span { result.span ≡ held.now.span }
-    ensures walked { result.walked ≡ held.now.walked }
-    ensures item { (y : Lain LiveTile) → IsTile info.now held.now y → IsOfKind subblock_id y.item.segment → y.item.entry.position ≡ pos y.item.segment.at → tile_of result ≡ y.item }
+    ensures back { IsTileBack info.now held.now result }
+    ensures info { info_of result.info ≡ info_of info.now }
 {
     Tile {
         info: info_in(info, memory),
@@ -80,9 +75,7 @@ pub fn attachment_back(info: &AttInfo, held: &HeldSegment) -> AttItem
     requires sound { IsSoundHeld attachment_id held.now }
     requires begins { BeginsAsKind held.now }
     requires ends { held.now.span.at + held.now.span.len ≤ 2 ^ 62 }
-    ensures span { result.span ≡ held.now.span }
-    ensures walked { result.walked ≡ held.now.walked }
-    ensures item { (y : Lain LiveAttItem) → IsAttachment info.now held.now y → IsOfKind attachment_id y.item.segment → y.item.entry.position ≡ pos y.item.segment.at → att_item_of result ≡ y.item }
+    ensures { IsAttachmentBack info.now held.now result }
 {
     AttItem {
         info: *info,
@@ -98,9 +91,7 @@ pub fn metadata_back(held: &HeldSegment) -> MetaItem
     requires sound { IsSoundHeld metadata_id held.now }
     requires begins { BeginsAsKind held.now }
     requires ends { held.now.span.at + held.now.span.len ≤ 2 ^ 62 }
-    ensures span { result.span ≡ held.now.span }
-    ensures walked { result.walked ≡ held.now.walked }
-    ensures item { (y : Lain LiveMetaItem) → IsMetadata held.now y → IsOfKind metadata_id y.item.segment → meta_item_of result ≡ y.item }
+    ensures { IsMetadataOf held.now result }
 {
     MetaItem {
         span: held.span,

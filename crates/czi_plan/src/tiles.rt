@@ -4,7 +4,7 @@ ghost use Rattle.std.specs.Prelude.{◌≡◌, ◌+◌, ◌-◌, ◌*◌, ◌^�
 ghost use Rattle.czi_format.specs.Entry.{Entry, entry_len};
 ghost use Rattle.czi_image.specs.Change.{AreWithin};
 ghost use Rattle.czi_plan.specs.Changing.{back_entries, front_entries, middle_entries, tiles_before, tiles_behind, tiles_brought, tiles_leaving};
-ghost use Rattle.czi_plan.specs.Listing.{AreSizes};
+ghost use Rattle.czi_plan.specs.Listing.{AreSizes, sizes_with};
 ghost use Rattle.czi_plan.specs.Directory.{back_of, entries_of, listed_back, listed_front, listed_middle, middle_of};
 ghost use Rattle.czi_plan.specs.Kind.{of_subblocks};
 
@@ -25,6 +25,25 @@ pub struct Sizes {
 }
 
 impl Sizes {
+    /// The parts where entries of so many bytes make room for others: what is behind them stays where as many bytes come as
+    /// leave, and is written too where not.
+    pub fn of_parts(front: usize, brought: usize, leaving: usize, behind: usize) -> Sizes
+        requires { front + brought + behind ≤ 2 ^ 40 }
+        ensures sizes { result ≡ sizes_with front brought leaving behind }
+        ensures bound { result.front + result.middle + result.back ≤ 2 ^ 40 }
+    {
+        let (middle, back) = if brought == leaving {
+            (brought, behind)
+        } else {
+            (brought + behind, 0)
+        };
+        Sizes {
+            front,
+            middle,
+            back,
+        }
+    }
+
     /// How long the data is.
     pub fn total(&self) -> usize
         requires { self.now.front + self.now.middle + self.now.back < 2 ^ 63 }
@@ -97,19 +116,7 @@ pub fn sizes_after(tiles: &[Tile], total: usize, from: usize, to: usize, brought
     let leaving = entries_len(&tiles[from..to]);
     let behind = entries_len(&tiles[to..]);
     let front = DIRECTORY_FRONT + len_before(tiles, total, from, leaving + behind);
-    if brought == leaving {
-        Sizes {
-            front,
-            middle: brought,
-            back: behind,
-        }
-    } else {
-        Sizes {
-            front,
-            middle: brought + behind,
-            back: 0,
-        }
-    }
+    Sizes::of_parts(front, brought, leaving, behind)
 }
 
 /// What an act brings to a list of subblocks.

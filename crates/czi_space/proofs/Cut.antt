@@ -1,9 +1,9 @@
 -- Extents below a length.
-use Rattle.std.proofs.Common.{◌≡◌, ℕ, suc, ◌+◌, ◌<◌, ◌≤◌, List, [], ◌∷◌, take, true, false, refl, ap, sym, ◌∙◌, subst, arith, inl, inr}
+use Rattle.std.proofs.Common.{◌≡◌, ℕ, suc, ◌+◌, ◌<◌, ◌≤◌, List, [], ◌∷◌, ◌++◌, take, true, false, refl, ap, sym, ◌∙◌, subst, arith, inl, inr}
 use Rattle.std.specs.List.{prefix_len}
 use Rattle.std.proofs.lemmas.Bool.{cases_Bool, leb-true, leb-false}
 use Rattle.std.proofs.lemmas.Bool.Decides.{nat_tests}
-use Rattle.czi_format.specs.Span.{Span, end_of}
+use Rattle.czi_format.specs.Span.{Span, end_of, IsWhole}
 use Rattle.czi_format.specs.Space.{cut_to}
 use Rattle.czi_space.specs.State.{AreExtents, ends_by}
 
@@ -46,3 +46,8 @@ cut_extents from to n (x ∷ rest) h es = elim (cases_Bool (ends_by n x)) [
   | inl e ↦ subst (AreExtents from n) (sym (stays n x rest e)) (es.0, es.1, cut_extents (end_of x) to n rest (leb-true _ _ e) es.2)
   | inr e ↦ subst (AreExtents from n) (sym (goes_out n x rest e ∙ none_left (end_of x) to n rest es.2 (leb-false _ _ e))) h
 ]
+
+-- one more extent, behind all others
+pub one_behind : (from to : ℕ) (es : List Span) (s : Span) → AreExtents from s.at es → IsWhole s → end_of s ≤ to → AreExtents from to (es ++ s ∷ [])
+one_behind from to [] s es whole inside = (es, whole, inside)
+one_behind from to (x ∷ rest) s es whole inside = (es.0, es.1, one_behind (end_of x) to rest s es.2 whole inside)

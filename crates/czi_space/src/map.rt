@@ -31,7 +31,7 @@ impl Model for Map {
 }
 
 impl Map {
-    ghost use Rattle.std.specs.Prelude.{◌≡◌, ◌+◌, ◌≤◌, ◌∷◌, [], length, map, OnOk, OnErr, IfOk, IsTrue};
+    ghost use Rattle.std.specs.Prelude.{◌≡◌, ◌+◌, ◌≤◌, ◌++◌, ◌∷◌, [], length, map, OnOk, OnErr, IfOk, IsTrue};
     ghost use Rattle.czi_format.specs.Span.{end_of, is_aligned, IsWhole, LiesInOne};
     ghost use Rattle.czi_format.specs.Space.{without, place_for, use_all, with_freed, with_held, released, cut_to, free_runs};
     ghost use Rattle.czi_num.specs.Span.{span_of};
@@ -49,6 +49,28 @@ impl Map {
             image_length: length,
             alloc,
         }
+    }
+
+    /// Takes all extents and all held spans out, and sets the length. The memory stays.
+    pub fn clear(&mut self, length: u64)
+        ensures map { Has self.new [] [] length }
+        ensures spare { self.old.spare ≤ self.new.spare }
+    {
+        self.extents.clear();
+        self.held.clear();
+        self.image_length = length;
+    }
+
+    /// Puts an extent behind all others.
+    pub fn push(&mut self, extent: &Span)
+        requires spare { 1 ≤ self.old.spare }
+        requires whole { IsWhole (span_of extent.now) }
+        requires behind { AreExtents 0 extent.now.at self.old.extents }
+        requires inside { end_of (span_of extent.now) ≤ self.old.length }
+        ensures map { Has self.new (self.old.extents ++ span_of extent.now ∷ []) self.old.held self.old.length }
+        ensures spare { self.old.spare ≤ self.new.spare + 1 }
+    {
+        let _ = self.extents.push(*extent);
     }
 
     /// Where a need goes: to the front of the lowest free run that is as long, and else to the length rounded up

@@ -36,7 +36,6 @@ fn info_of(name: &[Part]) -> Result<AttInfo, AllocError> {
 }
 
 fn planned_with(
-    alloc: Global,
     index: &Index,
     map: &Map,
     edit: Edit,
@@ -52,10 +51,10 @@ fn planned_with(
     let there = attachment_with(index, name).is_some();
     match edit {
         Edit::Attach if index.attachments.len() < 4096 => {
-            plan_attach(alloc, index, map, info, b"hello", region, out)
+            plan_attach(index, map, info, b"hello", region, out)
         }
-        Edit::Reattach if there => plan_reattach(alloc, index, map, info, b"hello", region, out),
-        Edit::Detach if there => plan_detach(alloc, index, map, name, region, out),
+        Edit::Reattach if there => plan_reattach(index, map, info, b"hello", region, out),
+        Edit::Detach if there => plan_detach(index, map, name, region, out),
         _ => Err(PlanFault::Memory),
     }
 }
@@ -137,7 +136,7 @@ fn planned(alloc: Global, row: &Row) -> Result<EditPlan, Fail> {
     let info = info_of(row.name)?;
     let mut region = Region::new(alloc);
     let mut plan = EditPlan::new(alloc);
-    match planned_with(alloc, &index, &map, row.edit, &info, &mut region, &mut plan) {
+    match planned_with(&index, &map, row.edit, &info, &mut region, &mut plan) {
         Ok(()) => Ok(plan),
         Err(_) => Err(Fail::from("no plan")),
     }

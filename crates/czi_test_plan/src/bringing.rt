@@ -50,7 +50,7 @@ fn brought(
     let map = map_of(alloc, index)?;
     let mut region = Region::new(alloc);
     let mut plan = EditPlan::new(alloc);
-    let answer = planned_with(alloc, index, &map, edit, &info, &mut region, &mut plan);
+    let answer = planned_with(index, &map, edit, &info, &mut region, &mut plan);
     if answer.is_err() {
         return Err(Fail::from("no plan"));
     }
@@ -59,7 +59,6 @@ fn brought(
 }
 
 fn planned_with(
-    alloc: Global,
     index: &Index,
     map: &Map,
     edit: Edit,
@@ -77,19 +76,19 @@ fn planned_with(
             if index.tiles.len() >= 1_048_576 {
                 return Err(PlanFault::Memory);
             }
-            plan_add(alloc, index, map, info, b"", PIXELS, b"", region, out)
+            plan_add(index, map, info, b"", PIXELS, b"", region, out)
         }
         Edit::Replace => {
             if tile_with(index, &info.dims).is_none() {
                 return Err(PlanFault::Memory);
             }
-            plan_replace(alloc, index, map, info, b"", PIXELS, b"", region, out)
+            plan_replace(index, map, info, b"", PIXELS, b"", region, out)
         }
         Edit::ReplaceAt(i) => {
             if i >= index.tiles.len() {
                 return Err(PlanFault::Memory);
             }
-            plan_replace_at(alloc, index, map, i, info, b"", PIXELS, b"", region, out)
+            plan_replace_at(index, map, i, info, b"", PIXELS, b"", region, out)
         }
     }
 }

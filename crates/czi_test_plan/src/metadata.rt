@@ -97,7 +97,7 @@ fn planned(alloc: Global, index: &Index) -> Result<(EditPlan, Vec<u8>), Fail> {
     let map = map_of(alloc, index)?;
     let mut region = Region::new(alloc);
     let mut plan = EditPlan::new(alloc);
-    match plan_set_meta(alloc, index, &map, XML, TAIL, &mut region, &mut plan) {
+    match plan_set_meta(index, &map, XML, TAIL, &mut region, &mut plan) {
         Ok(()) => {}
         Err(_) => return Err(Fail::from("no plan")),
     }

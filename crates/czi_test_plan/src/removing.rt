@@ -28,7 +28,7 @@ fn planned(alloc: Global, index: &Index, dims: &[u8]) -> Result<Result<Removal, 
     };
     let mut region = Region::new(alloc);
     let mut plan = EditPlan::new(alloc);
-    match plan_remove(alloc, index, &map, &dims, &mut region, &mut plan) {
+    match plan_remove(index, &map, &dims, &mut region, &mut plan) {
         Ok(()) => {}
         Err(fault) => return Ok(Err(fault)),
     }

@@ -1,6 +1,7 @@
 mod Found
 mod Kept
-mod Steps
+pub mod Steps
 mod Telling
 pub mod ToldAgain
-mod Undone
+pub mod Undone
+pub mod Usable

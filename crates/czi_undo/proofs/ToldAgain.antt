@@ -24,7 +24,7 @@ brought-past zero c = refl
 brought-past (suc i) c = brought-past i c
 
 -- what an inverse brings
-brought-part : {Y : Type 0} (p : ListPart Y) → brought (change_of p) ≡ list_new p
+pub brought-part : {Y : Type 0} (p : ListPart Y) → brought (change_of p) ≡ list_new p
 brought-part (drops i) = brought-past i (omit ∷ [])
 brought-part (puts i y) = brought-past i (bring y ∷ omit ∷ [])
 brought-part (inserts i y) = brought-past i (bring y ∷ [])

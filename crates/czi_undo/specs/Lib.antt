@@ -1,5 +1,6 @@
 pub mod Bounds
 pub mod Formers
+pub mod Holding
 pub mod Laws
 pub mod Parts
 pub mod Stands

@@ -2,6 +2,7 @@
 
 ghost use Rattle.czi_undo.specs.Bounds.{KeptAreWithin};
 ghost use Rattle.czi_undo.specs.Laws.{EditsLieBefore, FormersFound, FormersKept, LastUndone, OutUndone, PutUndone, UndosLieBefore};
+ghost use Rattle.czi_undo.specs.Holding.{HoldsUsable};
 ghost use Rattle.czi_undo.specs.Stands.{SinglesTold};
 
 /// What is told for the inverses that bring a state's former documents back gives these over the image, whether it is
@@ -33,4 +34,9 @@ pub fn bounds()
 /// A list of inverses of single edits tells what these tell.
 pub fn singles_told()
     ensures { SinglesTold }
+{}
+
+/// A single inverse holds back what it brings, as far as that can be used again.
+pub fn singles_hold()
+    ensures { HoldsUsable }
 {}

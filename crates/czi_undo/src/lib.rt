@@ -3,11 +3,12 @@
 #![tactic(auto)]
 
 mod held;
+mod holding;
 mod inverse;
 mod laws;
 mod list;
 
 pub use held::HeldSegment;
 pub use inverse::{Inverse, Part};
-pub use laws::{bounds, changes_undone, formers_found, singles_told, steps_lie};
+pub use laws::{bounds, changes_undone, formers_found, singles_hold, singles_told, steps_lie};
 pub use list::UndoList;

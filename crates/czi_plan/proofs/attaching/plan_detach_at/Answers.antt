@@ -7,7 +7,7 @@ use Rattle.czi_image.specs.declared.index.Index.{Index}
 use Rattle.czi_image.specs.declared.types.AttItem.{AttItem}
 use Rattle.czi_machine.specs.Change.{out as taken_out}
 use Rattle.czi_space.specs.State.{space_of}
-use Rattle.czi_plan.specs.Changing.{entries_in, range_after}
+use Rattle.czi_plan.specs.Changing.{edited, entries_in, range_after}
 use Rattle.czi_plan.specs.Kind.{of_attachments}
 use Rattle.czi_plan.specs.Listing.{IsPlace}
 use Rattle.czi_plan.proofs.Attached.{count_as, out_count, sizes_for}
@@ -15,6 +15,7 @@ use Rattle.czi_plan.proofs.Changed.{is_plan}
 use Rattle.czi_plan.proofs.Doing.{does}
 use Rattle.czi_plan.proofs.Entries.{sizes_total}
 use Rattle.czi_plan.proofs.KindLaws.{att_laws}
+use Rattle.czi_plan.proofs.Memory.{begins_attachments}
 use Rattle.czi_plan.proofs.Machines.{att_machine}
 use Rattle.czi_plan.proofs.Acts.{range_as, size_as}
 use Rattle.czi_plan.proofs.Needs.{no_memory, no_place}
@@ -32,14 +33,23 @@ att_sizes-sizes-requires-clause-few c =
 pub att_sizes-sizes-requires-clause-brought : goal.att_sizes-sizes-requires-clause-brought
 att_sizes-sizes-requires-clause-brought c = let a : CodeAct AttItem = Out c.args.i in omega (arith, ap (length {A = AttItem}) c.att_parts-parts.ensures.brought, few_brought a)
 
+pub stage_detachment-requires-clause-starts : goal.stage_detachment-requires-clause-starts
+stage_detachment-requires-clause-starts c = begins_attachments c.args.space.now c.args.out.now c.take_memory.new.out c.length-out.result c.in_ok-out.field-0 c.requires.empty c.length-out.ensures c.take_memory.ensures.same
+
+pub stage_detachment-requires-clause-no_writes : goal.stage_detachment-requires-clause-no_writes
+stage_detachment-requires-clause-no_writes c = c.take_memory.ensures.same.writes ∙ c.requires.empty.writes
+
+pub stage_detachment-requires-clause-no_marks : goal.stage_detachment-requires-clause-no_marks
+stage_detachment-requires-clause-no_marks c = c.take_memory.ensures.same.marks ∙ c.requires.empty.marks
+
 pub stage_detachment-requires-clause-place : goal.stage_detachment-requires-clause-place
 stage_detachment-requires-clause-place c =
     let x : Index = c.args.index.now in
     let a : CodeAct AttItem = Out c.args.i in
     let s = c.att_sizes-sizes.result in
     let are = sizes_for a _ x.attachments.items c.att_parts-parts.result s c.deref.ensures.value c.att_parts-parts.ensures c.att_sizes-sizes.ensures.sizes in
-    subst (λ n. IsPlace x x.attdir n (range_after of_attachments a x) (space_of c.args.space.now) c.in_ok-out.field-0) (c.total-size.ensures ∙ sizes_total of_attachments s _ _ _ are)
-    (subst (λ n. IsPlace x x.attdir c.total-size.result n (space_of c.args.space.now) c.in_ok-out.field-0) are.middle_is c.in_ok-out.ensures.place)
+    rw c.take_memory.ensures.same.attdir (subst (λ n. IsPlace x x.attdir n (range_after of_attachments a x) (space_of c.args.space.now) c.in_ok-out.field-0) (c.total-size.ensures ∙ sizes_total of_attachments s _ _ _ are)
+    (subst (λ n. IsPlace x x.attdir c.total-size.result n (space_of c.args.space.now) c.in_ok-out.field-0) are.middle_is c.in_ok-out.ensures.place))
 
 pub returns-in_err-out-clause-full : goal.returns-in_err-out-clause-full
 returns-in_err-out-clause-full c =
@@ -52,9 +62,9 @@ returns-in_err-out-clause-full c =
     rw (p.1, p.2) (no_place att_laws att_machine x c.args.space.now b [] c.total-size.result s.middle c.in_err-out.field-0.0 c.requires.of_index (c.requires.inside, tt) tt
     (c.total-size.ensures ∙ (sizes_total of_attachments s _ _ _ are ∙ size_as of_attachments a [] x.attachments.items)) (are.middle_is ∙ range_as of_attachments [] (entries_in of_attachments (take 1 (drop c.args.i x.attachments.items))) (entries_in of_attachments (drop (c.args.i + 1) x.attachments.items))) c.in_err-out.ensures.full.0 c.in_err-out.ensures.full.1)
 
-pub returns-in_err-stage_detachment-clause-full : goal.returns-in_err-stage_detachment-clause-full
-returns-in_err-stage_detachment-clause-full c =
-    let p = err_from_is_err_and c.from_residual-in_err-stage_detachment.result c.from_residual-in_err-stage_detachment.ensures.1 in
+pub returns-in_err-take_memory-clause-full : goal.returns-in_err-take_memory-clause-full
+returns-in_err-take_memory-clause-full c =
+    let p = err_from_is_err_and c.from_residual-in_err-take_memory.result c.from_residual-in_err-take_memory.ensures.1 in
     let x : Index = c.args.index.now in
     let s = c.att_sizes-sizes.result in
     let a : CodeAct AttItem = Out c.args.i in
@@ -65,11 +75,11 @@ returns-in_err-stage_detachment-clause-full c =
 
 pub returns-clause-plan : goal.returns-clause-plan
 returns-clause-plan c =
-    is_plan att_laws c.args.index.now c.args.space.now (Out c.args.i) (taken_out c.args.i) c.stage_detachment.new.region _ c.stage_detachment.new.out c.requires.of_index c.in_ok-stage_detachment.ensures
+    is_plan att_laws c.args.index.now c.args.space.now (Out c.args.i) (edited (taken_out c.args.i)) c.stage_detachment.new.region _ c.stage_detachment.new.out c.requires.of_index c.stage_detachment.ensures
 
 pub returns-clause-does : goal.returns-clause-does
 returns-clause-does c =
-    does att_laws att_machine c.args.index.now c.args.space.now (Out c.args.i) (taken_out c.args.i) c.stage_detachment.new.region _ c.stage_detachment.new.out c.requires.of_index c.in_ok-stage_detachment.ensures
+    does att_laws att_machine c.args.index.now c.args.space.now (Out c.args.i) (taken_out c.args.i) c.stage_detachment.new.region _ c.stage_detachment.new.out c.requires.of_index c.stage_detachment.ensures
 
 pub returns-clause-held : goal.returns-clause-held
-returns-clause-held c = few_held att_laws (Out c.args.i) c.args.index.now c.stage_detachment.new.out.held.items c.in_ok-stage_detachment.ensures.held
+returns-clause-held c = few_held att_laws (Out c.args.i) c.args.index.now c.stage_detachment.new.out.held.items c.stage_detachment.ensures.held

@@ -23,5 +23,5 @@ returns-clause-staged c =
       long = omega (arith, c.stage_att-piece.ensures.size, c.requires.long);
       padding = padding;
       bytes = put.reads ∙ ap (λ (p : ℤ). attachment_data (record { info = att_of i.info; position = p }) bytes padding) place;
-      only = c.in_ok-push.ensures.items ∙ ap (λ l. l ++ (i.span.at + 32, c.stage_att-piece.result) ∷ []) c.requires.no_writes;
+      only = c.put.ensures.items ∙ ap (λ l. l ++ (i.span.at + 32, c.stage_att-piece.result) ∷ []) c.requires.no_writes;
     }

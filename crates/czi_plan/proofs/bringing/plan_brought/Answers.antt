@@ -12,6 +12,7 @@ use Rattle.czi_plan.proofs.Changed.{is_plan}
 use Rattle.czi_plan.proofs.Doing.{does}
 use Rattle.czi_plan.specs.Changing.{tiles_brought}
 use Rattle.czi_plan.proofs.KindLaws.{tile_laws}
+use Rattle.czi_plan.proofs.Memory.{begins_tiles}
 use Rattle.czi_plan.proofs.Machines.{tile_machine}
 use Rattle.czi_plan.proofs.Needs.{no_memory, no_place, no_room}
 use Rattle.czi_plan.proofs.Parts.{few_held, map_extents}
@@ -22,6 +23,15 @@ place-requires-clause-rise c = map_extents c.args.index.now c.args.space.now c.r
 
 pub plan_directory-requires-clause-rise : goal.plan_directory-requires-clause-rise
 plan_directory-requires-clause-rise c = map_extents c.args.index.now c.args.space.now c.requires.of_index
+
+pub stage_brought-requires-clause-starts : goal.stage_brought-requires-clause-starts
+stage_brought-requires-clause-starts c = begins_tiles c.args.space.now c.args.out.now c.take_memory.new.out c.length-out.result c.in_ok-out.field-0 c.requires.empty c.length-out.ensures c.take_memory.ensures.same
+
+pub stage_brought-requires-clause-no_writes : goal.stage_brought-requires-clause-no_writes
+stage_brought-requires-clause-no_writes c = c.take_memory.ensures.same.writes ∙ c.requires.empty.writes
+
+pub stage_brought-requires-clause-no_marks : goal.stage_brought-requires-clause-no_marks
+stage_brought-requires-clause-no_marks c = c.take_memory.ensures.same.marks ∙ c.requires.empty.marks
 
 pub stage_brought-requires-clause-sizes : goal.stage_brought-requires-clause-sizes
 stage_brought-requires-clause-sizes c =
@@ -46,9 +56,20 @@ returns-in_err-out-clause-full c =
     (fit_at of_subblocks.need c.args.space.now c.args.seat s _ (span_of c.in_ok-span.span) c.data_len.ensures.need c.in_ok-span.ensures.placed) (c.total-size.ensures ∙ size_of_act of_subblocks c.sizes-sizes.result (act_at c.args.seat s) (as_entries (tiles_brought (act_at c.args.seat s))) x long of) (range_of_act of_subblocks c.sizes-sizes.result (act_at c.args.seat s) (as_entries (tiles_brought (act_at c.args.seat s))) x long of)
     c.in_err-out.ensures.full.0 c.in_err-out.ensures.full.1)
 
-pub returns-in_err-stage_brought-clause-full : goal.returns-in_err-stage_brought-clause-full
-returns-in_err-stage_brought-clause-full c =
-    let p = err_from_is_err_and c.from_residual-in_err-stage_brought.result c.from_residual-in_err-stage_brought.ensures.1 in
+pub returns-in_err-take_memory-clause-full : goal.returns-in_err-take_memory-clause-full
+returns-in_err-take_memory-clause-full c =
+    let p = err_from_is_err_and c.from_residual-in_err-take_memory.result c.from_residual-in_err-take_memory.ensures.1 in
+    let x = c.args.index.now in
+    let s = subblock_of c.args.new.now in
+    let of = subst (AreSizesOf of_subblocks c.sizes-sizes.result (act_at c.args.seat s)) c.deref.ensures.value (c.sizes-sizes.ensures.sizes s (sym c.entry_len.ensures)) in
+    let long = ap sum (entries_as_long (tiles_brought (act_at c.args.seat s))) in
+    rw (p.1, p.2) (no_memory tile_laws tile_machine x c.args.space.now (act_at c.args.seat s) (span_of c.in_ok-span.span ∷ []) c.total-size.result c.sizes-sizes.result.middle c.in_ok-out.field-0 c.requires.of_index (within_at c.args.seat s _ (2 ^ 20) c.requires.seat)
+    (fit_at of_subblocks.need c.args.space.now c.args.seat s _ (span_of c.in_ok-span.span) c.data_len.ensures.need c.in_ok-span.ensures.placed) (c.total-size.ensures ∙ size_of_act of_subblocks c.sizes-sizes.result (act_at c.args.seat s) (as_entries (tiles_brought (act_at c.args.seat s))) x long of) (range_of_act of_subblocks c.sizes-sizes.result (act_at c.args.seat s) (as_entries (tiles_brought (act_at c.args.seat s))) x long of)
+    c.in_ok-out.ensures.place)
+
+pub returns-in_err-tile-clause-full : goal.returns-in_err-tile-clause-full
+returns-in_err-tile-clause-full c =
+    let p = err_from_is_err_and c.from_residual-in_err-tile.result c.from_residual-in_err-tile.ensures.1 in
     let x = c.args.index.now in
     let s = subblock_of c.args.new.now in
     let of = subst (AreSizesOf of_subblocks c.sizes-sizes.result (act_at c.args.seat s)) c.deref.ensures.value (c.sizes-sizes.ensures.sizes s (sym c.entry_len.ensures)) in
@@ -59,15 +80,12 @@ returns-in_err-stage_brought-clause-full c =
 
 pub returns-clause-plan : goal.returns-clause-plan
 returns-clause-plan c =
-    let staged = c.in_ok-stage_brought.ensures in
-    is_plan tile_laws c.args.index.now c.args.space.now (act_at c.args.seat staged.0) _ c.stage_brought.new.region _ c.stage_brought.new.out c.requires.of_index staged.1
+    is_plan tile_laws c.args.index.now c.args.space.now (act_at c.args.seat c.in_ok-tile.tile) _ c.stage_brought.new.region _ c.stage_brought.new.out c.requires.of_index c.stage_brought.ensures
 
 pub returns-clause-does : goal.returns-clause-does
 returns-clause-does c =
-    let staged = c.in_ok-stage_brought.ensures in
-    does tile_laws tile_machine c.args.index.now c.args.space.now (act_at c.args.seat staged.0) (act_of (act_at c.args.seat (subblock_of c.args.new.now))) c.stage_brought.new.region _ c.stage_brought.new.out c.requires.of_index staged.1
+    does tile_laws tile_machine c.args.index.now c.args.space.now (act_at c.args.seat c.in_ok-tile.tile) (act_of (act_at c.args.seat (subblock_of c.args.new.now))) c.stage_brought.new.region _ c.stage_brought.new.out c.requires.of_index c.stage_brought.ensures
 
 pub returns-clause-held : goal.returns-clause-held
 returns-clause-held c =
-    let staged = c.in_ok-stage_brought.ensures in
-    few_held tile_laws (act_at c.args.seat staged.0) c.args.index.now c.stage_brought.new.out.held.items staged.1.held
+    few_held tile_laws (act_at c.args.seat c.in_ok-tile.tile) c.args.index.now c.stage_brought.new.out.held.items c.stage_brought.ensures.held

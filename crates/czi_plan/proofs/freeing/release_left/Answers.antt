@@ -14,11 +14,11 @@ returns-clause-freed g c =
     let left : List Place = map g.I.Listed.place c.args.leaving.now in
     let gone : List Place = left_directory c.args.change.now c.args.directory.now in
     let held : map span_of c.release_items.new.freed.items ≡ usable_of left
-    = c.in_ok-release_items.ensures.freed ∙ ap (λ (l : List CodeSpan). map span_of l ++ usable_of left) c.requires.no_held in
-    let copied : c.extend_from_slice.new.self.items ≡ c.release_items.new.freed.items
-    = c.in_ok-extend_from_slice.ensures.items ∙ (ap (λ l. l ++ c.deref.result.now) c.requires.no_freed ∙ c.deref.ensures.value) in
+    = c.release_items.ensures.freed ∙ ap (λ (l : List CodeSpan). map span_of l ++ usable_of left) c.requires.no_held in
+    let copied : c.put_all.new.list.items ≡ c.release_items.new.freed.items
+    = c.put_all.ensures.items ∙ (ap (λ l. l ++ c.deref.result.now) c.requires.no_freed ∙ c.deref.ensures.value) in
     let freed : map span_of c.release_directory.new.freed.items ≡ usable_of (left ++ gone)
-    = c.in_ok-release_directory.ensures.freed ∙ (ap (λ l. l ++ usable_of gone) (ap (map span_of) copied ∙ held) ∙ sym (spans_split can_be_used left gone)) in
+    = c.release_directory.ensures.freed ∙ (ap (λ l. l ++ usable_of gone) (ap (map span_of) copied ∙ held) ∙ sym (spans_split can_be_used left gone)) in
     let long : length c.sort_spans.new.spans ≡ length c.release_directory.new.freed.items = c.sort_spans.auto.spans ∙ ap length c.deref_mut.ensures.value in
     ap (map span_of) (taken_whole c.release_directory.new.freed.len c.sort_spans.new.spans c.release_directory.new.freed.items long (omega (arith, c.release_directory.new.freed.ok)))
     ∙ (c.sort_spans.ensures ∙ ap (sorted span_le) (ap (map span_of) c.deref_mut.ensures.value ∙ freed))
@@ -27,6 +27,6 @@ pub returns-clause-dead : goal.returns-clause-dead
 returns-clause-dead g c =
     let left : List Place = map g.I.Listed.place c.args.leaving.now in
     let gone : List Place = left_directory c.args.change.now c.args.directory.now in
-    c.in_ok-release_directory.ensures.dead
-    ∙ (ap (λ l. l ++ dead_of gone) (c.in_ok-release_items.ensures.dead ∙ ap (λ (l : List CodeSpan). map span_of l ++ dead_of left) c.requires.no_dead)
+    c.release_directory.ensures.dead
+    ∙ (ap (λ l. l ++ dead_of gone) (c.release_items.ensures.dead ∙ ap (λ (l : List CodeSpan). map span_of l ++ dead_of left) c.requires.no_dead)
     ∙ sym (spans_split (λ (p : Place). not (can_be_used p)) left gone))

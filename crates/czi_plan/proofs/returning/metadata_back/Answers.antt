@@ -1,6 +1,13 @@
-use Rattle.czi_plan.proofs.ItemsBack.{metadata_is}
+use Rattle.std.proofs.Common.{refl}
+use Rattle.czi_format.specs.Segment.{metadata_id}
+use Rattle.czi_plan.proofs.ItemsBack.{metadata_is, own_of}
 use Rattle.czi_plan.proofs.returning.metadata_back.Goals as goal
 
 -- src/returning.rt
-pub returns-clause-item : goal.returns-clause-item
-returns-clause-item c = λ y is kind. metadata_is c.args.held.now c.header_back.result y c.requires.ends c.header_back.ensures is kind
+pub returns : goal.returns
+returns c = record {
+  span = refl;
+  walked = refl;
+  own = own_of metadata_id c.args.held.now c.header_back.result c.args.held.now.span.at c.requires.sound c.header_back.ensures;
+  item = λ y is kind. metadata_is c.args.held.now c.header_back.result y c.requires.ends c.header_back.ensures is kind;
+}

@@ -30,7 +30,7 @@ returns-clause-staged c =
       long = omega (arith, c.stage_sub-piece.ensures.size, c.requires.long, own, dims);
       padding = fill (length (subblock_data e s 0));
       bytes = put.reads;
-      only = c.in_ok-push.ensures.items ∙ ap (λ l. l ++ (c.args.tile.now.span.at + 32, c.stage_sub-piece.result) ∷ []) c.requires.no_writes;
+      only = c.put.ensures.items ∙ ap (λ l. l ++ (c.args.tile.now.span.at + 32, c.stage_sub-piece.result) ∷ []) c.requires.no_writes;
     }
 
 pub returns-clause-left : goal.returns-clause-left

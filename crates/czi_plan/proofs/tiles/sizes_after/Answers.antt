@@ -16,9 +16,3 @@ len_before-front-requires-clause-rest c =
 
 pub overflow_add-front : goal.overflow_add-front
 overflow_add-front c = omega (arith, c.len_before-front.ensures.others, c.requires.most, c.requires.few)
-
-pub returns-then-brought-leaving-clause-bound : goal.returns-then-brought-leaving-clause-bound
-returns-then-brought-leaving-clause-bound c = omega (arith, c.len_before-front.ensures.others, c.requires.most, c.requires.few, c.requires.small)
-
-pub returns-else-brought-leaving-clause-bound : goal.returns-else-brought-leaving-clause-bound
-returns-else-brought-leaving-clause-bound c = omega (arith, c.len_before-front.ensures.others, c.requires.most, c.requires.few, c.requires.small)

@@ -1,16 +1,20 @@
-use Rattle.std.proofs.Common.{◌≡◌, ◌++◌, map, filter, sym, ◌∙◌, subst}
+use Rattle.std.proofs.Common.{◌++◌, map, filter, ap, ◌∙◌, arith, length}
 use Rattle.czi_num.specs.Span.{span_of}
-use Rattle.czi_spans.specs.Apart.{AreApart}
 use Rattle.czi_plan.specs.Geometry.{is_touched}
-use Rattle.czi_plan.proofs.Order.{extents_apart}
-use Rattle.czi_plan.proofs.Touched.{kept_rise}
 use Rattle.czi_plan.proofs.touching.touched.Goals as goal
 
-pub push_touched-requires : goal.push_touched-requires
-push_touched-requires c = subst (AreApart 0) (sym c.extents.ensures.extents) (extents_apart 0 _ _ c.extents.ensures.rising)
+pub push_touched-requires-clause-rise : goal.push_touched-requires-clause-rise
+push_touched-requires-clause-rise c = rw (c.clear.ensures.map.length, c.clear.ensures.map.extents, c.length.ensures, c.extents.ensures.extents) c.extents.ensures.rising
 
-pub of_runs-requires : goal.of_runs-requires
-of_runs-requires c =
-    let are : map span_of c.push_touched.new.out.items ≡ filter (is_touched (map span_of c.args.used.now) (map span_of c.args.freed.now)) c.args.space.now.extents
-    = c.in_ok-push_touched.ensures ∙ (λ i. map span_of (c.new-found.ensures.items i) ++ filter (is_touched (map span_of c.args.used.now) (map span_of c.args.freed.now)) (c.extents.ensures.extents i)) in
-    rw (c.length.ensures, are) (kept_rise (is_touched (map span_of c.args.used.now) (map span_of c.args.freed.now)) 0 c.args.space.now.length c.args.space.now.extents c.extents.ensures.rising)
+pub push_touched-requires-clause-spare : goal.push_touched-requires-clause-spare
+push_touched-requires-clause-spare c = rw c.extents.ensures.extents (omega (arith, c.requires, c.clear.ensures.spare))
+
+pub returns-clause-map : goal.returns-clause-map
+returns-clause-map c = record {
+  extents = c.push_touched.ensures.map.extents ∙ (λ i. c.clear.ensures.map.extents i ++ filter (is_touched (map span_of c.args.used.now) (map span_of c.args.freed.now)) (c.extents.ensures.extents i));
+  held = c.push_touched.ensures.map.held ∙ c.clear.ensures.map.held;
+  length = c.push_touched.ensures.map.length ∙ (c.clear.ensures.map.length ∙ c.length.ensures);
+}
+
+pub returns-clause-spare : goal.returns-clause-spare
+returns-clause-spare c = omega (arith, c.push_touched.ensures.spare, c.clear.ensures.spare, ap (λ l. length (filter (is_touched (map span_of c.args.used.now) (map span_of c.args.freed.now)) l)) c.extents.ensures.extents)
