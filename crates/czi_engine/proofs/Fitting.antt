@@ -15,7 +15,7 @@ use Rattle.czi_machine.specs.State.{Items, Former, State, items_of, item_places,
 use Rattle.czi_num.specs.Span.{span_of}
 use Rattle.czi_num.specs.declared.span.Span.{Span as CodeSpan}
 use Rattle.czi_space.specs.State.{space_of as map_space, AreExtents}
-use Rattle.czi_engine.specs.Standing.{held_by, HasItsMap, HoldBack, HasState, Origin, AreWhole, file_of}
+use Rattle.czi_engine.specs.Standing.{held_by, HasItsMap, HoldBack, HasState, Origin, AreWhole, file_of, spans_held}
 use Rattle.czi_engine.specs.declared.engine.EngineState.{EngineState}
 use Rattle.czi_commit.specs.Made.{Fits, step_of}
 use Rattle.czi_plan.specs.Conditions.{IsMapOf}
@@ -53,8 +53,8 @@ held_same newer (f ∷ formers) (e ∷ edits) p back = omega (
   usable-append (not_among (item_spans newer) (item_places f.items)) (held_places f.items formers) p,
 )
 
-pub held_cover : (o : Origin) (bytes : List ℕ) (live : Live) (s : State) (x : EngineState) (p : ℕ) → HasState o bytes live s x → cover (held_by x.edits.items) p ≡ cover (usable_held s) p
-held_cover o bytes live s x p has = held_same (items_of s.layout) s.formers x.edits.items p has.edits
+pub held_cover : (o : Origin) (bytes : List ℕ) (live : Live) (s : State) (x : EngineState) (p : ℕ) → HasState o bytes live s x → cover (held_by (spans_held x)) p ≡ cover (usable_held s) p
+held_cover o bytes live s x p has = held_same (items_of s.layout) s.formers (spans_held x) p has.edits
 
 -- the extents and the length of the map are those of the layout
 pub map_deleted : (o : Origin) (bytes : List ℕ) (live : Live) (s : State) (x : EngineState) → HasState o bytes live s x → HasItsMap x → x.map.extents ≡ s.layout.deleted
@@ -65,9 +65,9 @@ map_length o bytes live s x has own = own.length ∙ has.lies.length
 
 pub same_space : (o : Origin) (bytes : List ℕ) (live : Live) (s : State) (x : EngineState) → HasState o bytes live s x → HasItsMap x → map_space x.map ≡ space_of s
 same_space o bytes live s x has own =
-    let runs : free_runs x.map.held x.map.extents ≡ free_runs (held_by x.edits.items) s.layout.deleted = λ i. free_runs (own.held i) (map_deleted o bytes live s x has own i) in
-    let both : map_space x.map ≡ record { runs = free_runs (held_by x.edits.items) s.layout.deleted; length = s.layout.length } = λ i. record { runs = runs i; length = map_length o bytes live s x has own i } in
-    both ∙ sym (usable_space s (held_by x.edits.items) has.stands.tidy (λ p. held_cover o bytes live s x p has))
+    let runs : free_runs x.map.held x.map.extents ≡ free_runs (held_by (spans_held x)) s.layout.deleted = λ i. free_runs (own.held i) (map_deleted o bytes live s x has own i) in
+    let both : map_space x.map ≡ record { runs = free_runs (held_by (spans_held x)) s.layout.deleted; length = s.layout.length } = λ i. record { runs = runs i; length = map_length o bytes live s x has own i } in
+    both ∙ sym (usable_space s (held_by (spans_held x)) has.stands.tidy (λ p. held_cover o bytes live s x p has))
 
 -- held spans begin and end at multiples of 32
 held_whole : (edits : List (Option CodeSpan)) → AreWhole edits → AllByRecursion IsWhole (held_by edits)
@@ -75,11 +75,11 @@ held_whole [] all = tt
 held_whole (None ∷ edits) all = held_whole edits all.1
 held_whole (Some s ∷ edits) all = All-inserted IsWhole span_le (span_of s) (held_by edits) (all.0 s refl) (held_whole edits all.1)
 
-pub its_map : (x : EngineState) → HasItsMap x → AreWhole x.edits.items → IsMapOf x.index x.map
+pub its_map : (x : EngineState) → HasItsMap x → AreWhole (spans_held x) → IsMapOf x.index x.map
 its_map x own whole = record {
   extents = sym own.extents;
   length = sym own.length;
-  held = subst (AllByRecursion IsWhole) (sym own.held) (held_whole x.edits.items whole);
+  held = subst (AllByRecursion IsWhole) (sym own.held) (held_whole (spans_held x) whole);
 }
 
 pub fits_step : (x : EngineState) (region : Region) (p : EditPlan) → HasItsMap x → IsPlan x.index x.map region p → Fits x.index.length (step_of (file_of x) region p)

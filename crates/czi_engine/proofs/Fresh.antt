@@ -31,7 +31,12 @@ use Rattle.czi_opening.specs.Course.{Stays, StandsForItself}
 use Rattle.czi_machine.proofs.Leaving.{among_themselves}
 use Rattle.czi_machine.proofs.Tiled.{All-weaken, aligned_is}
 use Rattle.std.specs.Prelude.{IsTrue}
-use Rattle.czi_engine.specs.Standing.{AreWhole, HasSome, HasState, HoldBack, IsFresh, IsItself, IsKept, IsOf, IsOpened, KeepsItems, StandsOnRig, is_among, origin_of}
+use Rattle.czi_machine.specs.Formers.{present, BringBack as FormersBack}
+use Rattle.czi_undo.specs.Holding.{holds_of}
+use Rattle.czi_undo.specs.Told.{FitAll}
+use Rattle.czi_undo.specs.declared.inverse.Inverse.{Inverse}
+use Rattle.czi_engine.specs.Stands.{StandsOn}
+use Rattle.czi_engine.specs.Standing.{BringBack, FewKept, HasSome, HasState, HoldBack, IsFresh, IsItself, IsKept, IsOf, IsOpened, KeepsItems, StandsOnRig, is_among, origin_of, spans_held}
 use Rattle.czi_engine.specs.Editing.{OpensIn}
 use Rattle.czi_engine.proofs.Keeping.{has_opens}
 use Rattle.czi_engine.proofs.Openable.{opened_stands}
@@ -77,24 +82,37 @@ module _ {D : Type 0} (rig : Ghosts D) where
 pub own_items : (bytes : List ℕ) (s : MachineState) → KeepsItems (origin_of bytes s) bytes s.layout
 own_items bytes s = All-weaken (λ x. IsTrue (is_among (item_spans (items_of s.layout)) x)) (IsKept (origin_of bytes s) bytes s.layout) (λ x there. record { there = there; same = refl }) (item_spans (items_of s.layout)) (among_themselves (item_spans (items_of s.layout)))
 
+-- nothing brings no former document back
+none_back : (bytes : List ℕ) (live : Live) (s : MachineState) → StandsOn bytes bytes live s → s.formers ≡ [] → BringBack bytes live s []
+none_back bytes live s stands none = record {
+  told = [];
+  single = tt;
+  back = record {
+    with' = record { lies = stands.lies; tidy = stands.tidy; back = subst (FormersBack bytes (present s) []) (sym none) tt };
+    fit = subst (FitAll (present s) []) (sym none) tt;
+  };
+}
+
 -- an index of the image, and no edits: the state of the image
-pub fresh_has : (bytes : List ℕ) (x : EngineState) (s : MachineState) → Indexes bytes x.index → x.edits.items ≡ [] → IsFresh bytes x.number s → (live : Live) × HasState (origin_of bytes s) bytes live s x
+pub fresh_has : (bytes : List ℕ) (x : EngineState) (s : MachineState) → Indexes bytes x.index → x.edits ≡ [] → IsFresh bytes x.number s → (live : Live) × HasState (origin_of bytes s) bytes live s x
 fresh_has bytes x s is none f =
     let same : f.live ≡ is.live = reaches_unique bytes f.live is.live f.reaches is.reaches in
+    let stands = opened_stands bytes is.live s is.settled is.reaches (f.document ∙ ap (document bytes) same) f.layout f.formers in
     let laid : s.layout ≡ layout (length bytes) is.live is.walk = layout_unique bytes s.layout (layout (length bytes) is.live is.walk) f.layout (is.live, is.walk, is.reaches, is.walks, refl) in (
       is.live,
       record {
-        stands = opened_stands bytes is.live s is.settled is.reaches (f.document ∙ ap (document bytes) same) f.layout f.formers;
+        stands = stands;
         holds = is.holds;
         lies = subst (λ (l : Layout). LiesAs l x.index) (sym laid) is.lies;
-        edits = subst (λ (fs : List Former). HoldBack (items_of s.layout) fs x.edits.items) (sym f.formers) (subst (λ (es : List (Option CodeSpan)). HoldBack (items_of s.layout) [] es) (sym none) tt);
+        edits = subst (λ (fs : List Former). HoldBack (items_of s.layout) fs (spans_held x)) (sym f.formers) (subst (λ (is : List Inverse). HoldBack (items_of s.layout) [] (map holds_of is)) (sym none) tt);
+        back = subst (BringBack bytes is.live s) (sym none) (none_back bytes is.live s stands f.formers);
         number = sym f.number;
         kept = own_items bytes s;
       },
     )
 
 -- there is one
-some_state : (bytes : List ℕ) (x : EngineState) → Indexes bytes x.index → x.edits.items ≡ [] → HasSome bytes x
+some_state : (bytes : List ℕ) (x : EngineState) → Indexes bytes x.index → x.edits ≡ [] → HasSome bytes x
 some_state bytes x is none =
     let s : MachineState = record { document = document bytes is.live; layout = layout (length bytes) is.live is.walk; formers = []; number = x.number } in
     let has = fresh_has bytes x s is none (record { live = is.live; reaches = is.reaches; document = refl; layout = (is.live, is.walk, is.reaches, is.walks, refl); formers = refl; number = refl }) in
@@ -122,8 +140,7 @@ begins s o x of shown stands synced own = record {
   armed = λ disk is. subst (λ j. Everywhere (IsJournal j) disk) (sym of.journal) (stands disk is);
   idle = λ off. synced.1;
   own_map = of.own_map;
-  whole = subst AreWhole (sym of.edits) tt;
-  few = subst (λ (es : List (Option CodeSpan)). length es ≤ 32) (sym of.edits) (omega arith);
+  few = subst FewKept (sym of.edits) (record { whole = tt; ones = tt; few = omega arith });
 }
 
 pub opened_fresh : (s : State) (o : Opened) (x : EngineState) → IsOf o x → ForSome (seen_of s Image) (λ image. Indexes image o.index) → IsOpened s x

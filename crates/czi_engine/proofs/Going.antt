@@ -49,7 +49,9 @@ use Rattle.czi_engine.specs.Free.{LiesFree}
 use Rattle.czi_engine.specs.Holes.{AreHigh, view_of}
 use Rattle.czi_engine.specs.Moment.{AlikeInItems, item_segments, BringsApart}
 use Rattle.czi_engine.specs.Prepared.{GoesBy, HasMemory, IsPrepared}
-use Rattle.czi_engine.specs.Standing.{HasItsMap, HasState, HoldBack, IsKept, KeepsItems, Origin, file_of, is_among, origin_in}
+use Rattle.czi_undo.specs.Holding.{holds_of}
+use Rattle.czi_undo.specs.declared.inverse.Inverse.{Inverse}
+use Rattle.czi_engine.specs.Standing.{BringBack, FewKept, HasItsMap, HasState, HoldBack, IsKept, KeepsItems, Origin, file_of, is_among, origin_in}
 use Rattle.czi_engine.specs.Stands.{StandsOn}
 use Rattle.czi_engine.specs.declared.engine.Engine.{Engine}
 use Rattle.czi_engine.specs.declared.engine.EngineState.{EngineState}
@@ -63,14 +65,6 @@ use Rattle.czi_engine.proofs.Writable.{filled_in_view, free_in_view}
 use Rattle.czi_engine.specs.Editing.{AsBefore, Goes}
 use Rattle.czi_engine.specs.declared.engine.Scratch.{Scratch}
 use Rattle.czi_engine.proofs.Same.{same_has}
-
--- the edits that are kept hold back what the formers that are kept do
-fewer_back : (n : ℕ) (newer : Items) (formers : List Former) (edits : List (Option CodeSpan)) → HoldBack newer formers edits → HoldBack newer (take n formers) (take n edits)
-fewer_back zero newer formers edits back = tt
-fewer_back (suc n) newer [] [] back = tt
-fewer_back (suc n) newer [] (e ∷ edits) back = absurd back
-fewer_back (suc n) newer (f ∷ formers) [] back = absurd back
-fewer_back (suc n) newer (f ∷ formers) (e ∷ edits) back = (back.0, back.1, fewer_back n f.items formers edits back.2)
 
 -- items have the places of their segments
 places_of : {X : Type 0} (f : X → Segment) (ps : List Place) (xs : List X) → map (λ (p : Place). p.span) ps ≡ map (λ x. extent (f x)) xs → spans_of ps ≡ map extent (map f xs)
@@ -138,7 +132,7 @@ module _ (o : Origin) (bytes : List ℕ) (live : Live) (s : State) (x : Engine) 
       (All-weaken (LiesFreeIn m) _ here ws plan.free) in
       subst (λ (n : ℕ). AreFree (view_of bytes s high) (filled n ws)) long (filled_in_view bytes s high ws free)
 
-  module _ (go : State → Result State Refusal) (held : Option CodeSpan) (by : GoesBy go bytes live s x held) where
+  module _ (go : State → Result State Refusal) (kept : List Inverse) (by : GoesBy go bytes live s x kept) where
     planned : IsPlanned bytes live s by.state (turn x) (step x)
     planned = record {
       effect = by.effect;
@@ -180,18 +174,20 @@ module _ (o : Origin) (bytes : List ℕ) (live : Live) (s : State) (x : Engine) 
 
     -- the engine that has the index, the edits and the number afterwards
     pub has_next : (y : EngineState) → IsChanged x.scratch.plan.change y.index.extents.items x.scratch.plan.length x.state.index y.index → map span_of y.index.extents.items ≡ extents_after x.scratch.plan x.state.map.extents
-        → y.edits.items ≡ held ∷ take 31 x.state.edits.items → y.number ≡ one_more x.state.number → HasState (origin_in o by.state) (made_by x bytes) (changed_live (turn x) live) by.state y
+        → y.edits ≡ kept → y.number ≡ one_more x.state.number → HasState (origin_in o by.state) (made_by x bytes) (changed_live (turn x) live) by.state y
     has_next y index extents edits number =
         let p = x.scratch.plan in
         let lies : layout_after p.change (map span_of y.index.extents.items) p.length s.layout ≡ by.state.layout =
         ap (λ (es : List Span). layout_after p.change es p.length s.layout) (extents ∙ ap (extents_after p) (map_deleted o bytes live s x.state has own)) ∙ sym by.layout in
-        let back : HoldBack (items_of by.state.layout) by.state.formers (held ∷ take 31 x.state.edits.items) =
-        subst (λ (fs : List Former). HoldBack (items_of by.state.layout) fs (held ∷ take 31 x.state.edits.items)) (sym by.formers) (by.holds, refl, fewer_back 31 (items_of s.layout) s.formers x.state.edits.items has.edits) in
+        let wrote = made_wrote bytes (step x) fits in
+        let here = subst (λ (z : List ℕ). Wrote bytes z (pieces_in (step x)) × (length z ≡ p.length)) made_same (wrote.0, wrote.1) in
+        let back : BringBack (made_by x bytes) (changed_live (turn x) live) by.state kept = by.back (made_by x bytes) here.0 (here.1 ∙ sym (ap (λ (l : Layout). l.length) by.layout)) in
         record {
           stands = stands_next;
           holds = holds_changed p.change y.index.extents.items p.length x.state.index y.index live index has.holds;
           lies = subst (λ (l : Layout). LiesAs l y.index) lies (lies_changed p.change y.index.extents.items p.length x.state.index y.index s.layout index has.lies);
-          edits = subst (HoldBack (items_of by.state.layout) by.state.formers) (sym edits) back;
+          edits = subst (λ (is : List Inverse). HoldBack (items_of by.state.layout) by.state.formers (map holds_of is)) (sym edits) by.holds;
+          back = subst (BringBack (made_by x bytes) (changed_live (turn x) live) by.state) (sym edits) back;
           number = number ∙ (ap one_more has.number ∙ sym by.number);
           kept = kept_next;
         }
@@ -292,11 +288,11 @@ before_here a = record {
 }
 
 -- what a plan is on a state, told by an engine that was as this one
-goes_same : (go : Goes) (bytes : List ℕ) (live : Live) (s : State) (x y : Engine) (held : Option CodeSpan) → AsBefore x.state y.state → y.scratch ≡ x.scratch → GoesBy go bytes live s x held → GoesBy go bytes live s y held
-goes_same go bytes live s x y held same scratch by =
+goes_same : (go : Goes) (bytes : List ℕ) (live : Live) (s : State) (x y : Engine) (kept : List Inverse) → AsBefore x.state y.state → y.scratch ≡ x.scratch → GoesBy go bytes live s x kept → GoesBy go bytes live s y kept
+goes_same go bytes live s x y kept same scratch by =
     let z : Engine = record { state = y.state; scratch = x.scratch } in
     let turn : live_change_of x.scratch.plan.change y.state.index ≡ live_change_of x.scratch.plan.change x.state.index = turn_same x.state.index y.state.index same.index x.scratch.plan.change in
-    let here : GoesBy go bytes live s z held = record {
+    let here : GoesBy go bytes live s z kept = record {
       state = by.state;
       goes = by.goes;
       leads = by.leads;
@@ -306,18 +302,18 @@ goes_same go bytes live s x y held same scratch by =
       spans = subst (λ (t : LiveChange). SpansAt by.state.layout (changed_live t live)) (sym turn) by.spans;
       plans = subst (λ (t : LiveChange). Plans bytes s.layout by.state.layout live by.effect t (pieces_of x.scratch.region x.scratch.plan)) (sym turn) by.plans;
       apart = subst (BringsApart live) (sym turn) by.apart;
-      formers = by.formers;
       holds = by.holds;
+      back = λ other wrote long. subst (λ (t : LiveChange). BringBack other (changed_live t live) by.state kept) (sym turn) (by.back other wrote long);
       number = by.number;
     } in
-    subst (λ (c : Scratch). GoesBy go bytes live s (record { state = y.state; scratch = c }) held) (sym scratch) here
+    subst (λ (c : Scratch). GoesBy go bytes live s (record { state = y.state; scratch = c }) kept) (sym scratch) here
 
 -- so the plan stays prepared
-pub prepared_after : (go : Goes) (x y : Engine) (held : Option CodeSpan) → AsBefore x.state y.state → y.scratch ≡ x.scratch → HasMemory y → ForSome held (λ s. IsWhole (span_of s)) → IsPlan x.state.index x.state.map x.scratch.region x.scratch.plan
-    → ((o : Origin) (bytes : List ℕ) (live : Live) (s : State) → HasState o bytes live s x.state → GoesBy go bytes live s x held) → IsPrepared go y held
-prepared_after go x y held same scratch memory whole plan means = record {
+pub prepared_after : (go : Goes) (x y : Engine) (kept : List Inverse) → AsBefore x.state y.state → y.scratch ≡ x.scratch → HasMemory y → FewKept kept → IsPlan x.state.index x.state.map x.scratch.region x.scratch.plan
+    → ((o : Origin) (bytes : List ℕ) (live : Live) (s : State) → HasState o bytes live s x.state → GoesBy go bytes live s x kept) → IsPrepared go y kept
+prepared_after go x y kept same scratch memory few plan means = record {
   plan = subst (λ (c : Scratch). IsPlan y.state.index y.state.map c.region c.plan) (sym scratch) (plan_same x.state.index y.state.index same.index x.state.map y.state.map same.map x.scratch.region x.scratch.plan plan);
   memory = memory;
-  whole = whole;
-  means = λ o bytes live s has. goes_same go bytes live s x y held same scratch (means o bytes live s (same_has y.state x.state (before_back x.state y.state same) o bytes live s has));
+  few = few;
+  means = λ o bytes live s has. goes_same go bytes live s x y kept same scratch (means o bytes live s (same_has y.state x.state (before_back x.state y.state same) o bytes live s has));
 }

@@ -11,6 +11,7 @@ pub mod Going
 pub mod OnRig
 pub mod Oldest
 pub mod Apart
+pub mod Inverting
 pub mod Planned
 pub mod Same
 pub mod Created

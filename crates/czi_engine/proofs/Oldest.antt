@@ -1,8 +1,11 @@
 -- The oldest edit is forgotten: the map then holds back what the others do.
-use Rattle.std.proofs.Common.{◌≡◌, List, [], ◌∷◌, ◌++◌, true, false, Option, Some, None, refl, ap, sym, ◌∙◌, subst, arith, inl, inr}
+use Rattle.std.proofs.Common.{◌≡◌, ◌<◌, ◌≤◌, ◌||◌, List, [], ◌∷◌, ◌++◌, append-nil, length, length-append, map, nat_lt, sum, take, true, true≢false, false, Option, Some, None, refl, ap, sym, ◌∙◌, subst, arith, inl, inr}
 use Rattle.std.specs.Prelude.{IsTrue}
 use Rattle.std.specs.List.{AllByRecursion}
-use Rattle.std.proofs.lemmas.Bool.{cases_Bool}
+use Rattle.std.proofs.lemmas.Bool.{cases_Bool, cases_lt, le-ltb, lt-ltb}
+use Rattle.std.proofs.lemmas.List.{length-map, map-append, take_all}
+use Rattle.std.proofs.lemmas.List.Sums.{sum_by-cons}
+use Rattle.std.proofs.Math.Seq.{take-append_seam}
 use Rattle.czi_format.specs.Space.{same_span, released, with_held}
 use Rattle.czi_format.specs.Span.{Span, span_le}
 use Rattle.czi_machine.proofs.Leaving.{same_is, same_self}
@@ -11,7 +14,10 @@ use Rattle.czi_num.specs.declared.span.Span.{Span as CodeSpan}
 use Rattle.czi_space.specs.State.{IsHeld, IsInOrder}
 use Rattle.czi_space.proofs.Held.{held_in_order}
 use Rattle.czi_space.proofs.Ordered.{le_trans, ordered}
-use Rattle.czi_engine.specs.Standing.{held_by}
+use Rattle.czi_undo.specs.Bounds.{counts_of, passes}
+use Rattle.czi_undo.specs.Holding.{holds_of}
+use Rattle.czi_undo.specs.declared.inverse.Inverse.{Inverse}
+use Rattle.czi_engine.specs.Standing.{TakeOneBack, held_by}
 
 -- before all of some spans
 first_in : (a : Span) (hs : List Span) → AllByRecursion (λ t. IsTrue (span_le a t)) hs → with_held a hs ≡ a ∷ hs
@@ -97,3 +103,45 @@ pub none_last : (edits : List (Option CodeSpan)) → held_by (edits ++ None ∷ 
 none_last [] = refl
 none_last (None ∷ edits) = none_last edits
 none_last (Some a ∷ edits) = ap (with_held (span_of a)) (none_last edits)
+
+-- how many edits inverses take back of which each takes one back
+ones_sum : (is : List Inverse) → TakeOneBack is → sum (counts_of is) ≡ length is
+ones_sum [] all = refl
+ones_sum (i ∷ is) all = omega (arith, all.0, sum_by-cons (λ n. n) i.edits (counts_of is), ones_sum is all.1)
+
+counts_long : (is : List Inverse) → length (counts_of is) ≡ length is
+counts_long is = length-map is (λ (i : Inverse). i.edits)
+
+-- they pass no bound where there are no more than 32
+pub passes_none : (is : List Inverse) → TakeOneBack is → length is ≤ 32 → passes (counts_of is) ≡ false
+passes_none is all few =
+    let long : nat_lt 32 (length (counts_of is)) ≡ false = le-ltb _ _ (omega (arith, counts_long is, few)) in
+    let many : nat_lt 128 (sum (counts_of is)) ≡ false = le-ltb _ _ (omega (arith, ones_sum is all, few)) in
+    λ k. long k || many k
+
+passes_some : (is : List Inverse) → TakeOneBack is → length is ≤ 33 → true ≡ passes (counts_of is) → 32 < length is
+passes_some is all few over = elim (cases_lt 32 (length is)) [
+  | inl high ↦ high
+  | inr low ↦ absurd (true≢false (over ∙ passes_none is all low))
+]
+
+-- the oldest is off where there were 33
+pub oldest_off : (is js : List Inverse) (i : Inverse) → TakeOneBack is → length is ≤ 33 → true ≡ passes (counts_of is) → is ≡ js ++ i ∷ [] → js ≡ take 32 is
+oldest_off is js i all few over e =
+    let n : 32 ≡ length js = omega (arith, passes_some is all few over, few, ap (length {A = Inverse}) e, length-append js (i ∷ [])) in
+    sym ((λ k. take (n k) (e k)) ∙ take-append_seam js (i ∷ []))
+
+pub none_off : (is js : List Inverse) → TakeOneBack is → false ≡ passes (counts_of is) → length is ≤ 33 → is ≡ js ++ [] → js ≡ take 32 is
+none_off is js all under few e =
+    let same : is ≡ js = e ∙ append-nil js in
+    sym same ∙ sym (take_all 32 is (elim (cases_lt 32 (length is)) [
+      | inl high ↦ absurd (true≢false (sym (under ∙ over high)))
+      | inr low ↦ low
+    ]))
+  where
+    over : 32 < length is → passes (counts_of is) ≡ true
+    over high = let long : nat_lt 32 (length (counts_of is)) ≡ true = lt-ltb _ _ (omega (arith, counts_long is, high)) in λ k. long k || nat_lt 128 (sum (counts_of is))
+
+-- what inverses hold back before and after the last one is taken off
+pub spans_before : (is js : List Inverse) (i : Inverse) (h : Option CodeSpan) → is ≡ js ++ i ∷ [] → h ≡ holds_of i → map holds_of is ≡ map holds_of js ++ h ∷ []
+spans_before is js i h e same = ap (map holds_of) e ∙ (map-append holds_of js (i ∷ []) ∙ ap (λ z. map holds_of js ++ z ∷ []) (sym same))

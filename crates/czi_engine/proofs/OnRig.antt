@@ -38,7 +38,8 @@ use Rattle.czi_engine.specs.Edited.{Edits, OnFiles, OnImage}
 use Rattle.czi_engine.specs.Editing.{Accepts, Alike, AsBefore, DuringEdit, Goes, RefusesEdit, is_device, refusal_of}
 use Rattle.czi_engine.specs.Holes.{AreHigh, view_of}
 use Rattle.czi_engine.specs.Prepared.{IsPrepared}
-use Rattle.czi_engine.specs.Standing.{AreWhole, HasItsMap, HasSome, HasState, IsItself, Origin, StandsOnRig, origin_in}
+use Rattle.czi_undo.specs.declared.inverse.Inverse.{Inverse}
+use Rattle.czi_engine.specs.Standing.{FewKept, HasItsMap, HasSome, HasState, IsItself, Origin, StandsOnRig, origin_in}
 use Rattle.czi_engine.specs.declared.engine.Engine.{Engine}
 use Rattle.czi_engine.specs.declared.engine.EngineState.{EngineState}
 use Rattle.czi_engine.specs.declared.error.EditError.{EditError}
@@ -63,14 +64,14 @@ Carried rig x old new = ForSome (devices (rig.state old)) (λ all. (view : View)
 keeps_stands : (view : View) (bytes image journal : List ℕ) → KeepsOr view bytes image journal → StandsOr view bytes image journal
 keeps_stands view bytes image journal sides = ⊎_elim (λ keeps. inl keeps.0) (λ made. inr made.0) sides
 
-module _ {D : Type 0} (rig : Ghosts D) (old new : D) (x : Engine) (go : Goes) (held : Option CodeSpan) (p : IsPrepared go x held) (on : StandsOnRig (rig.state old) x.state) (carried : Carried rig x old new) where
+module _ {D : Type 0} (rig : Ghosts D) (old new : D) (x : Engine) (go : Goes) (kept : List Inverse) (p : IsPrepared go x kept) (on : StandsOnRig (rig.state old) x.state) (carried : Carried rig x old new) where
   carried_on : (all : Devices) → devices (rig.state old) ≡ Some all → (o : Origin) (live : Live) (s : MachineState) → (has : HasState o all.image.seen live s x.state)
       → Throughout rig old new (λ image j said. KeepsOr (view_of all.image.seen s (high o all.image.seen live s x has on.own_map p.plan)) (made_by x all.image.seen) image j × (said ≡ all.said))
   carried_on all is o live s has =
       let up = high o all.image.seen live s x has on.own_map p.plan in
       carried all is (view_of all.image.seen s up) (stands_now all s up (on.image all.image (known_file (rig.state old) Image all is)) (on.itself all is))
       (record { long = omega arith; each = λ k lt out. refl }) (has.stands.settled 100 (omega arith) (omega arith))
-      (leaves_100 o all.image.seen live s x has on.own_map p.plan go held (p.means o all.image.seen live s has)) (writes_free o all.image.seen live s x has on.own_map p.plan)
+      (leaves_100 o all.image.seen live s x has on.own_map p.plan go kept (p.means o all.image.seen live s has)) (writes_free o all.image.seen live s x has on.own_map p.plan)
 
   pub moments : OnFiles (rig.state old) x.state (λ all o s. Throughout rig old new (DuringEdit o s go all.said))
   moments all is o live s has =
@@ -78,7 +79,7 @@ module _ {D : Type 0} (rig : Ghosts D) (old new : D) (x : Engine) (go : Goes) (h
       let by = p.means o bytes live s has in
       let up = high o bytes live s x has on.own_map p.plan in
       weaker rig (λ i j said sides. during_edit o bytes (made_by x bytes) i j said all.said live (changed_live (turn x) live) s by.state go up has.stands has.kept
-      (stands_next o bytes live s x has on.own_map p.plan go held by) (kept_next o bytes live s x has on.own_map p.plan go held by) by.goes sides) (carried_on all is o live s has)
+      (stands_next o bytes live s x has on.own_map p.plan go kept by) (kept_next o bytes live s x has on.own_map p.plan go kept by) by.goes sides) (carried_on all is o live s has)
 
   pub alike : OnlyNow rig → OnFiles (rig.state old) x.state (λ all o s. EachTwo rig old new Alike)
   alike only all is o live s has =
@@ -86,16 +87,16 @@ module _ {D : Type 0} (rig : Ghosts D) (old new : D) (x : Engine) (go : Goes) (h
       let by = p.means o bytes live s has in
       let up = high o bytes live s x has on.own_map p.plan in
       let rests = stands_now all s up (on.image all.image (known_file (rig.state old) Image all is)) (on.itself all is) in
-      each_two rig Alike (λ i j said i' j' said' one two a b l m ra rb la lb. touches o bytes live s x has on.own_map p.plan go held by i j i' j' a b l m one two ra rb la lb)
+      each_two rig Alike (λ i j said i' j' said' one two a b l m ra rb la lb. touches o bytes live s x has on.own_map p.plan go kept by i j i' j' a b l m one two ra rb la lb)
       (during rig all only is (weaker rig (λ i j said sides. keeps_stands (view_of bytes s up) (made_by x bytes) i j sides.0) (carried_on all is o live s has)) (λ i j said l. inl (rests i j said l)))
 
 -- the engine afterwards
-module _ (x : Engine) (y : EngineState) (go : Goes) (held : Option CodeSpan) (p : IsPrepared go x held) (own : HasItsMap x.state)
+module _ (x : Engine) (y : EngineState) (go : Goes) (kept : List Inverse) (p : IsPrepared go x kept) (own : HasItsMap x.state)
     (index : IsChanged x.scratch.plan.change y.index.extents.items x.scratch.plan.length x.state.index y.index) (extents : map span_of y.index.extents.items ≡ extents_after x.scratch.plan x.state.map.extents)
-    (edits : y.edits.items ≡ held ∷ take 31 x.state.edits.items) (number : y.number ≡ one_more x.state.number) (old new : State)
+    (edits : y.edits ≡ kept) (number : y.number ≡ one_more x.state.number) (old new : State)
     (image : known new Image ≡ option_map (λ (disk : Disk). at_rest (made_by x disk.seen)) (known old Image)) where
   has_after : (bytes : List ℕ) (o : Origin) (live : Live) (s : MachineState) → (has : HasState o bytes live s x.state) → (let by = p.means o bytes live s has in HasState (origin_in o by.state) (made_by x bytes) (changed_live (turn x) live) by.state y)
-  has_after bytes o live s has = has_next o bytes live s x has own p.plan go held (p.means o bytes live s has) y index extents edits number
+  has_after bytes o live s has = has_next o bytes live s x has own p.plan go kept (p.means o bytes live s has) y index extents edits number
 
   pub accepts : OnImage old x.state (λ o s. Accepts go o s new y y.number)
   accepts bytes seen o live s has =
@@ -112,10 +113,10 @@ module _ (x : Engine) (y : EngineState) (go : Goes) (held : Option CodeSpan) (p 
             subst (λ (b : List ℕ). HasState (origin_in o by.state) b (changed_live (turn x) live) by.state y) (ap (made_by x) (sym same) ∙ sym from.seen_is) (has_after bytes o live s has);
       }
 
-  pub stands_after : StandsOnRig old x.state → HasItsMap y → AreWhole y.edits.items → length y.edits.items ≤ 32
+  pub stands_after : StandsOnRig old x.state → HasItsMap y
       → ForSome (devices old) (λ all. ForSome (devices new) (λ now. (image j said : List ℕ) → LeavesNow now image j said → Recovered image j (made_by x all.image.seen)))
       → ForSome (known new Journal) (Everywhere (IsJournal y.journal)) → y.journal.armed ≡ true → GoesOn old new → new.said ≡ old.said → StandsOnRig new y
-  stands_after on map_is whole few committed journal armed goes said =
+  stands_after on map_is committed journal armed goes said =
       let h : Disk → Disk = λ disk. at_rest (made_by x disk.seen) in
       record {
         image = λ disk is. let from = came_from (known old Image) (known new Image) h disk image is in subst IsAtRest (sym from.is) refl;
@@ -136,21 +137,8 @@ module _ (x : Engine) (y : EngineState) (go : Goes) (held : Option CodeSpan) (p 
         armed = journal;
         idle = λ off. absurd (true≢false (sym armed ∙ off));
         own_map = map_is;
-        whole = whole;
-        few = few;
+        few = subst FewKept (sym edits) p.few;
       }
-
--- what is kept of edits
-fewer_whole : (n : ℕ) (edits : List (Option CodeSpan)) → AreWhole edits → AreWhole (take n edits)
-fewer_whole zero edits all = tt
-fewer_whole (suc n) [] all = tt
-fewer_whole (suc n) (e ∷ edits) all = (all.0, fewer_whole n edits all.1)
-
-pub next_whole : (x : EngineState) (y : EngineState) (held : Option CodeSpan) → ForSome held (λ s. IsWhole (span_of s)) → AreWhole x.edits.items → y.edits.items ≡ held ∷ take 31 x.edits.items → AreWhole y.edits.items × (length y.edits.items ≤ 32)
-next_whole x y held own all is = (
-  subst AreWhole (sym is) (own, fewer_whole 31 x.edits.items all),
-  subst (λ (es : List (Option CodeSpan)). length es ≤ 32) (sym is) (omega (arith, length-take 31 x.edits.items)),
-)
 
 -- an error of a device is no refusal
 device_refuses : (go : Goes) (s : MachineState) (error : EditError) → IsTrue (is_device error) → RefusesEdit go s error
@@ -190,21 +178,20 @@ no_cause s JournalDevice off = absurd (true≢false off)
 not_both : (go : Goes) (s s' : MachineState) (refusal : Refusal) → go s ≡ Ok s' → go s ≡ Err refusal → ⊥
 not_both go s s' refusal goes refused = cc (goes, refused)
 
-module _ {D : Type 0} (rig : Ghosts D) (old new : D) (x : Engine) (go : Goes) (held : Option CodeSpan) (p : IsPrepared go x held) (on : StandsOnRig (rig.state old) x.state) (carried : Carried rig x old new) (only : OnlyNow rig)
+module _ {D : Type 0} (rig : Ghosts D) (old new : D) (x : Engine) (go : Goes) (kept : List Inverse) (p : IsPrepared go x kept) (on : StandsOnRig (rig.state old) x.state) (carried : Carried rig x old new) (only : OnlyNow rig)
     (said : (rig.state new).said ≡ (rig.state old).said) (goes_on : GoesOn (rig.state old) (rig.state new)) where
   -- the plan was carried out and taken over
   pub edited_ok : (y : EngineState) → IsChanged x.scratch.plan.change y.index.extents.items x.scratch.plan.length x.state.index y.index → map span_of y.index.extents.items ≡ extents_after x.scratch.plan x.state.map.extents
-      → HasItsMap y → y.edits.items ≡ held ∷ take 31 x.state.edits.items → y.number ≡ one_more x.state.number → IsFalse y.down
+      → HasItsMap y → y.edits ≡ kept → y.number ≡ one_more x.state.number → IsFalse y.down
       → known (rig.state new) Image ≡ option_map (λ (disk : Disk). at_rest (made_by x disk.seen)) (known (rig.state old) Image)
       → ForSome (devices (rig.state old)) (λ all. ForSome (devices (rig.state new)) (λ now. (image j said : List ℕ) → LeavesNow now image j said → Recovered image j (made_by x all.image.seen)))
       → ForSome (known (rig.state new) Journal) (Everywhere (IsJournal y.journal)) → y.journal.armed ≡ true → Faults None (rig.state old) (rig.state new) → Edits rig go old new x.state y (Ok y.number)
   edited_ok y index extents map_is edits number up image committed journal armed cause =
-      let both = next_whole x.state y held p.whole on.whole edits in
       record {
-        moments = moments rig old new x go held p on carried;
-        alike = alike rig old new x go held p on carried only;
-        accepted = accepts x y go held p on.own_map index extents edits number (rig.state old) (rig.state new) image;
-        stands = stands_after x y go held p on.own_map index extents edits number (rig.state old) (rig.state new) image on map_is both.0 both.1 committed journal armed goes_on said;
+        moments = moments rig old new x go kept p on carried;
+        alike = alike rig old new x go kept p on carried only;
+        accepted = accepts x y go kept p on.own_map index extents edits number (rig.state old) (rig.state new) image;
+        stands = stands_after x y go kept p on.own_map index extents edits number (rig.state old) (rig.state new) image on map_is committed journal armed goes_on said;
         up = up;
         armed = armed;
         refused = tt;
@@ -219,8 +206,8 @@ module _ {D : Type 0} (rig : Ghosts D) (old new : D) (x : Engine) (go : Goes) (h
   -- a device failed
   pub edited_err : (y : EngineState) (error : EditError) → IsTrue (is_device error) → IsTrue y.down → Faults (edit_device error) (rig.state old) (rig.state new) → Edits rig go old new x.state y (Err error)
   edited_err y error device down cause = record {
-    moments = moments rig old new x go held p on carried;
-    alike = alike rig old new x go held p on carried only;
+    moments = moments rig old new x go kept p on carried;
+    alike = alike rig old new x go kept p on carried only;
     accepted = tt;
     stands = tt;
     up = tt;

@@ -1,9 +1,9 @@
 -- The plan of an edit, as a command of the machine.
-use Rattle.std.proofs.Common.{◌≡◌, ℕ, zero, suc, ◌+◌, ◌-◌, ◌<◌, ◌≤◌, ◌^◌, List, [], ◌∷◌, map, take, length, true, false, nat_le, nat_lt, Bool, not, bytes_eq, cond, position, Option, Some, None, option_map, option_to_list, Result, Ok, Err, refl, ap, sym, ◌∙◌, subst, arith, inl, inr}
+use Rattle.std.proofs.Common.{◌≡◌, ℕ, zero, suc, ◌+◌, ◌-◌, ◌<◌, ◌≤◌, ◌^◌, List, [], ◌∷◌, map, take, length, true, false, nat_le, nat_lt, Bool, not, bytes_eq, cond, position, Option, Some, None, filter, option_map, option_to_list, Result, Ok, Err, refl, ap, sym, ◌∙◌, subst, arith, inl, inr}
 use Rattle.std.specs.Prelude.{IfSome, IsErrAnd, IsFalse}
 use Rattle.std.specs.List.{AllByRecursion, prefix_len}
 use Rattle.std.specs.Option.{ForSome, option_or}
-use Rattle.std.proofs.lemmas.Bool.{cases_Bool, le-leb, leb-true, lt-ltb, le-ltb}
+use Rattle.std.proofs.lemmas.Bool.{and_from, cases_Bool, le-leb, leb-true, lt-ltb, le-ltb}
 use Rattle.std.proofs.lemmas.List.{length-map}
 use Rattle.std.proofs.lemmas.List.Quantifiers.{position-Some}
 use Rattle.czi_format.specs.Document.{Attachment, Document, Metadata, Subblock}
@@ -13,44 +13,51 @@ use Rattle.czi_format.specs.Key.{attachment_key, key}
 use Rattle.czi_format.specs.Layout.{Place, Layout}
 use Rattle.czi_format.specs.Live.{AttItem, Live, Tile, attachment_of, document, subblock_of}
 use Rattle.czi_format.specs.Space.{Full}
-use Rattle.czi_format.specs.Span.{is_aligned, IsWhole}
-use Rattle.czi_format.proofs.Readings.{both_true}
-use Rattle.czi_image.specs.Change.{acts_of, live_change_of}
-use Rattle.czi_image.specs.Holds.{tile_place, att_item_place, meta_item_place}
+use Rattle.czi_image.specs.Change.{live_change_of}
 use Rattle.czi_image.specs.View.{att_item_of, tile_of}
 use Rattle.czi_image.specs.declared.types.AttItem.{AttItem as CodeAttItem}
-use Rattle.czi_image.specs.declared.types.MetaItem.{MetaItem as CodeMetaItem}
 use Rattle.czi_image.specs.declared.types.Tile.{Tile as CodeTile}
 use Rattle.czi_image.specs.declared.index.Index.{Index}
-use Rattle.czi_machine.specs.Change.{into, omitted, out, put}
+use Rattle.czi_machine.specs.Change.{into, out, put}
 use Rattle.czi_machine.specs.Edit.{Edit, DocumentEffect, Refusal, add, after, attach, attachment_with as named_in_document, detach, duplicate, effect, fits, found, in_attachments, in_subblocks, not_found, reattach, remove, replace, same_key, set_meta, subblock_with, to_metadata, too_many}
 use Rattle.czi_machine.specs.Fits.{FitsEffect}
 use Rattle.czi_machine.specs.Machine.{after_edit, after_effect, as_refusal, edited, kept_formers, within_bounds}
 use Rattle.czi_machine.specs.Places.{can_be_used}
-use Rattle.czi_machine.specs.State.{Former, Items, State, items_of}
-use Rattle.czi_machine.specs.LiveChange.{LiveChange}
+use Rattle.czi_machine.specs.Formers.{present, undoing}
+use Rattle.czi_machine.specs.State.{Former, Items, State, item_places, item_spans, items_of, not_among, spans_of}
+use Rattle.czi_machine.specs.LiveChange.{LiveChange, changed_live}
 use Rattle.czi_machine.proofs.Follow.{fits_turn, spans_follow}
 use Rattle.czi_machine.proofs.Ordering.{fits_in_order, full_in_order}
-use Rattle.czi_machine.proofs.Tiled.{All-both, aligned_is}
 use Rattle.czi_num.specs.Span.{span_of}
 use Rattle.czi_num.specs.declared.span.Span.{Span as CodeSpan}
 use Rattle.czi_plan.specs.Conditions.{LiesIn}
 use Rattle.czi_plan.specs.Does.{Does, DoesIn, HasNoPlan, layout_by}
-use Rattle.czi_plan.specs.Plan.{IsPlan, left_items, usable_of}
+use Rattle.czi_plan.specs.Plan.{IsPlan}
 use Rattle.czi_plan.specs.Search.{attachment_with, tile_with}
 use Rattle.czi_plan.specs.declared.plan.PlanFault.{PlanFault}
 use Rattle.czi_plan.specs.declared.plan.PlanFault.TheVariants.{Full as NoPlaceIn, Memory as NoMemory}
 use Rattle.czi_engine.specs.Editing.{AsBefore, Goes, RefusesEdit, is_device, refusal_of, unplanned}
 use Rattle.czi_engine.specs.Limits.{TellsNew, attachment_pieces, first_past_limit, metadata_pieces, subblock_pieces}
-use Rattle.czi_engine.specs.Prepared.{GoesBy, Prepares}
-use Rattle.czi_engine.specs.Tasks.{Means}
-use Rattle.czi_engine.specs.Standing.{HasItsMap, HasState, HoldBack, Origin}
+use Rattle.czi_undo.specs.Holding.{holds_of}
+use Rattle.czi_undo.specs.Laws.{LiesBefore}
+use Rattle.czi_undo.specs.Parts.{return_of, return_places}
+use Rattle.czi_undo.specs.Stands.{AreSingle}
+use Rattle.czi_undo.specs.Told.{FitAll, Single, few_items, return_of_single}
+use Rattle.czi_undo.specs.declared.inverse.Inverse.{Inverse}
+use Rattle.czi_undo.proofs.Steps.{edits_lie}
+use Rattle.czi_undo.proofs.Usable.{holds_usable}
+use Rattle.czi_engine.specs.Inverting.{InverseUndoes}
+use Rattle.czi_engine.specs.Prepared.{GoesBy, Prepares, edits_after}
+use Rattle.czi_engine.specs.Tasks.{Means, effect_of}
+use Rattle.czi_engine.specs.Standing.{HasItsMap, HasState, HoldBack, Origin, spans_held}
 use Rattle.czi_engine.specs.declared.engine.Engine.{Engine}
 use Rattle.czi_engine.specs.declared.engine.EngineState.{EngineState}
 use Rattle.czi_engine.specs.declared.error.EditError.{EditError}
+use Rattle.czi_engine.specs.declared.planning.Task.{Task}
 use Rattle.czi_engine.specs.declared.error.EditError.TheVariants as edits
 use Rattle.czi_engine.proofs.Apart.{in_order_apart}
 use Rattle.czi_engine.proofs.Fitting.{same_space}
+use Rattle.czi_engine.proofs.Inverting.{in_range_after, places_left, take_map, undone_by}
 use Rattle.czi_engine.proofs.Going.{before_here}
 
 prefix_map : {X Y : Type 0} (f : X → Y) (p : Y → Bool) (xs : List X) → prefix_len p (map f xs) ≡ prefix_len (λ x. p (f x)) xs
@@ -197,77 +204,90 @@ formers_kept : (s : State) (edits : List (Option CodeSpan)) → HoldBack (items_
 unfolding kept_formers
 formers_kept s edits back = bounded 31 127 (items_of s.layout) s.formers edits back (omega arith)
 
+-- the edits that are kept hold back what the formers that are kept do
+fewer_back : (n : ℕ) (newer : Items) (formers : List Former) (edits : List (Option CodeSpan)) → HoldBack newer formers edits → HoldBack newer (take n formers) (take n edits)
+fewer_back zero newer formers edits back = tt
+fewer_back (suc n) newer [] [] back = tt
+fewer_back (suc n) newer [] (e ∷ edits) back = absurd back
+fewer_back (suc n) newer (f ∷ formers) [] back = absurd back
+fewer_back (suc n) newer (f ∷ formers) (e ∷ edits) back = (back.0, back.1, fewer_back n f.items formers edits back.2)
+
+-- and so it is of what brings them back
+told_kept : (n left : ℕ) (newer : Items) (a : Former) (fs : List Former) (edits : List (Option CodeSpan)) (os : List Single) → HoldBack newer fs edits → FitAll a os fs → n ≤ left → take (within_bounds n left fs) os ≡ take n os
+told_kept zero left newer a fs edits os back fit few = refl
+told_kept (suc n) left newer a [] edits [] back fit few = refl
+told_kept (suc n) left newer a [] edits (o ∷ os) back fit few = absurd fit
+told_kept (suc n) left newer a (f ∷ fs) [] os back fit few = absurd back
+told_kept (suc n) left newer a (f ∷ fs) (e ∷ edits) [] back fit few = absurd fit
+told_kept (suc n) left newer a (f ∷ fs) (e ∷ edits) (o ∷ os) back fit few =
+    let one : nat_le f.edits left ≡ true = le-leb _ _ (omega (arith, back.1, few)) in
+    rw one (ap (λ z. o ∷ z) (told_kept n (left - f.edits) f.items f fs edits os back.2 fit.2 (omega (arith, back.1, few))))
+
+told_back : (s : State) (edits : List (Option CodeSpan)) (os : List Single) → HoldBack (items_of s.layout) s.formers edits → FitAll (present s) os s.formers → take (kept_formers 1 s) os ≡ take 31 os
+unfolding kept_formers
+told_back s edits os back fit = told_kept 31 127 (items_of s.layout) (present s) s.formers edits os back fit (omega arith)
+
+fewer_told : (n : ℕ) (is : List Inverse) (os : List Single) → AreSingle is os → AreSingle (take n is) (take n os)
+fewer_told zero is os single = tt
+fewer_told (suc n) [] [] single = tt
+fewer_told (suc n) [] (o ∷ os) single = absurd single
+fewer_told (suc n) (i ∷ is) [] single = absurd single
+fewer_told (suc n) (i ∷ is) (o ∷ os) single = (single.0, fewer_told n is os single.1)
+
+-- the lists of a document of an engine are within their limits
+few_there : (x : EngineState) (o : Origin) (bytes : List ℕ) (live : Live) (s : State) → HasState o bytes live s x → few_items s.document ≡ true
+few_there x o bytes live s has =
+    let tiles : length s.document.subblocks ≤ 2 ^ 20 = omega (arith, as_many_tiles x o bytes live s has, x.index.few_tiles, x.index.tiles.ok) in
+    let attachments : length s.document.attachments ≤ 2 ^ 12 = omega (arith, as_many_attachments x o bytes live s has, x.index.few_attachments, x.index.attachments.ok) in
+    and_from _ _ (le-leb _ _ tiles) (le-leb _ _ attachments)
+
 -- a state that lies in an engine
 pub lies_in : (o : Origin) (bytes : List ℕ) (live : Live) (s : State) (x : EngineState) → HasState o bytes live s x → HasItsMap x → LiesIn bytes live s x.index x.map
 lies_in o bytes live s x has own = record { loosely = has.stands.lies; holds = has.holds; lies = has.lies; space = same_space o bytes live s x has own }
 
--- what a plan holds back begins and ends at multiples of 32
-held_whole : (places : List Place) → AllByRecursion (λ (p : Place). 0 < p.span.len) places → AllByRecursion IsWhole (usable_of places)
-held_whole [] all = tt
-held_whole (p ∷ places) all = elim (cases_Bool (can_be_used p)) [
-  | inl e ↦ rw e (
-      let even = both_true p.walked (is_aligned p.span) e in
-      let both = aligned_is p.span even.1 in
-      (record { at = both.0; len = both.1; some = all.0 }, held_whole places all.1))
-  | inr e ↦ rw e (held_whole places all.1)
-]
-
-tiles_some : (ts : List CodeTile) → AllByRecursion (λ (p : Place). 0 < p.span.len) (map tile_place ts)
-tiles_some [] = tt
-tiles_some (t ∷ ts) = (omega (arith, t.extent), tiles_some ts)
-
-attachments_some : (as' : List CodeAttItem) → AllByRecursion (λ (p : Place). 0 < p.span.len) (map att_item_place as')
-attachments_some [] = tt
-attachments_some (a ∷ as') = (omega (arith, a.extent), attachments_some as')
-
-metadata_some : (m : Option CodeMetaItem) → AllByRecursion (λ (p : Place). 0 < p.span.len) (option_to_list (option_map meta_item_place m))
-metadata_some None = tt
-metadata_some (Some m) = (omega (arith, m.extent), tt)
-
-one_whole : (held : Option CodeSpan) (spans : List CodeSpan) → option_to_list held ≡ spans → AllByRecursion IsWhole (map span_of spans) → ForSome held (λ s. IsWhole (span_of s))
-one_whole None spans is all s e = absurd (no_some s e)
-  where
-    no_some : (a : CodeSpan) → (let o : Option CodeSpan = None in o) ≡ Some a → ⊥
-    no_some a e = cc
-one_whole (Some a) spans is all s e =
-    let whole : AllByRecursion IsWhole (map span_of (a ∷ [])) = subst (λ (l : List CodeSpan). AllByRecursion IsWhole (map span_of l)) (sym is) all in
-    subst (λ (z : CodeSpan). IsWhole (span_of z)) (same a s e) whole.0
-  where
-    same : (a b : CodeSpan) → Some a ≡ Some b → a ≡ b
-    same a b e = cc
-
-pub planned_whole : (x : Engine) (held : Option CodeSpan) → IsPlan x.state.index x.state.map x.scratch.region x.scratch.plan → option_to_list held ≡ x.scratch.plan.held.items → ForSome held (λ s. IsWhole (span_of s))
-planned_whole x held plan one =
-    let p = x.scratch.plan in
-    let i : Index = x.state.index in
-    one_whole held p.held.items one (subst (AllByRecursion IsWhole) (sym plan.held) (held_whole (left_items p.change i)
-    (All-both (λ (q : Place). 0 < q.span.len) (map tile_place (omitted (acts_of p.change.tiles.items) i.tiles.items)) _ (tiles_some _)
-    (All-both (λ (q : Place). 0 < q.span.len) (map att_item_place (omitted (acts_of p.change.attachments.items) i.attachments.items)) _ (attachments_some _) (metadata_some _)))))
-
 -- a plan that does what an edit does is that command of the machine
-pub plan_means : (x : Engine) (c : Edit) (e : DocumentEffect) (held : Option CodeSpan) → HasItsMap x.state → option_to_list held ≡ x.scratch.plan.held.items → Means x.state c (Ok e)
-    → IsPlan x.state.index x.state.map x.scratch.region x.scratch.plan → Does x.state.index x.state.map x.scratch.region x.scratch.plan e
-    → (o : Origin) (bytes : List ℕ) (live : Live) (s : State) → HasState o bytes live s x.state → GoesBy (λ s. after_edit s c) bytes live s x held
-plan_means x c e held own one leads plan does o bytes live s has =
+pub plan_means : (x : Engine) (c : Edit) (task : Task) (inverse : Inverse) → HasItsMap x.state → InverseUndoes task x.state.index inverse → Means x.state c (Ok (effect_of task x.state.index))
+    → IsPlan x.state.index x.state.map x.scratch.region x.scratch.plan → Does x.state.index x.state.map x.scratch.region x.scratch.plan (effect_of task x.state.index)
+    → (o : Origin) (bytes : List ℕ) (live : Live) (s : State) → HasState o bytes live s x.state → GoesBy (λ s. after_edit s c) bytes live s x (edits_after inverse x.state)
+plan_means x c task inverse own undoes leads plan does o' bytes live s has =
     let p = x.scratch.plan in
+    let e : DocumentEffect = effect_of task x.state.index in
     let turn : LiveChange = live_change_of p.change x.state.index in
-    let d : DoesIn bytes live s x.state.index x.scratch.region p e = does bytes live s (lies_in o bytes live s x.state has own) in
+    let d : DoesIn bytes live s x.state.index x.scratch.region p e = does bytes live s (lies_in o' bytes live s x.state has own) in
     let l' : Layout = layout_by p s in
     let s' : State = edited s 1 (after e s.document) l' in
     let next : after_effect s e ≡ Ok s' = ap (λ (r : Result Layout Full). with_fault as_refusal r >>= λ l. Ok (edited s 1 (after e s.document) l)) d.goes in
     let fits : FitsEffect s e turn = fits_in_order s e turn _ d.fits d.order in
+    let spans = spans_follow s.layout l' live turn has.stands.lies.extents (fits_turn s s' e turn fits next) in
+    let o : Single = undoes.0 in
+    let returns : undoing 1 turn live s.layout ≡ return_of_single o =
+    undone_by x.state.index live s.layout has.holds has.lies task o.part turn undoes.2 (d.order.tiles, d.order.attachments, d.order.metadata) ∙ ap (λ n. return_of n o.part) (sym undoes.3) in
+    let first : Former = record { document = s.document; items = items_of s.layout; edits = 1 } in
+    let kept : first ∷ take (kept_formers 1 s) s.formers ≡ first ∷ take 31 s.formers = ap (λ fs. first ∷ fs) (formers_kept s (spans_held x.state) has.edits) in
+    let spans_kept : map holds_of (edits_after inverse x.state) ≡ holds_of inverse ∷ take 31 (spans_held x.state) = ap (λ es. holds_of inverse ∷ es) (take_map holds_of 31 x.state.edits) in
+    let leaves : map span_of (option_to_list (holds_of inverse)) ≡ spans_of (filter can_be_used (not_among (item_spans (items_of l')) (item_places (items_of s.layout)))) =
+    holds_usable inverse o undoes.1 ∙ ap (λ ps. spans_of (filter can_be_used ps)) (ap return_places (sym returns) ∙ (places_left x.state.index live s.layout has.holds has.lies p.change ∙ sym d.leaves)) in
+    let told = has.back.told in
+    let os_kept : take (kept_formers 1 s) told ≡ take 31 told = told_back s (spans_held x.state) told has.edits has.back.back.fit in
     record {
       state = s';
-      goes = ap (λ r. r >>= after_effect s) (leads o bytes live s has) ∙ next;
+      goes = ap (λ r. r >>= after_effect s) (leads o' bytes live s has) ∙ next;
       leads = inl (e, next);
       effect = e;
       document = refl;
       layout = refl;
-      spans = spans_follow s.layout l' live turn has.stands.lies.extents (fits_turn s s' e turn fits next);
+      spans = spans;
       plans = d.plans;
       apart = in_order_apart bytes live s x.state e p has.stands.lies has.stands.tidy has.lies plan.apart d.order;
-      formers = ap (λ fs. record { document = s.document; items = items_of s.layout; edits = 1 } ∷ fs) (formers_kept s x.state.edits.items has.edits);
-      holds = ap (map span_of) one ∙ (plan.held ∙ ap usable_of (sym d.leaves));
+      holds = subst (λ (fs : List Former). HoldBack (items_of l') fs (map holds_of (edits_after inverse x.state))) (sym kept)
+          (subst (HoldBack (items_of l') (first ∷ take 31 s.formers)) (sym spans_kept) (leaves, refl, fewer_back 31 (items_of s.layout) s.formers (spans_held x.state) has.edits));
+      back = λ other wrote long. record {
+        told = o ∷ take 31 told;
+        single = (undoes.1, fewer_told 31 x.state.edits told has.back.single);
+        back = subst (λ os. LiesBefore other (changed_live turn live) s' (o ∷ os)) os_kept
+            (edits_lie bytes other s s' live e turn _ o told has.back.back (few_there x.state o' bytes live s has) next spans d.plans wrote long returns
+            (in_range_after x.state.index s.document task o.part (as_many_tiles x.state o' bytes live s has) (as_many_attachments x.state o' bytes live s has) undoes.2));
+      };
       number = refl;
     }
 
@@ -293,9 +313,9 @@ unplanned_device NoMemory = refl
 unplanned_device (NoPlaceIn need n) = refl
 
 -- an error with which an edit isn't prepared
-unprepared : (go : Goes) (x y : Engine) (r : Result (Option CodeSpan) EditError) (error : EditError) → AsBefore x.state y.state → IsFalse (is_device error)
+unprepared : (go : Goes) (x y : Engine) (r : Result Inverse EditError) (error : EditError) → AsBefore x.state y.state → IsFalse (is_device error)
     → ((o : Origin) (bytes : List ℕ) (live : Live) (s : State) → HasState o bytes live s x.state → RefusesEdit go s error) → IsErrAnd r (λ e. e ≡ error) → Prepares go x y r
-unprepared go x y (Ok held) error was device refuses none = absurd none
+unprepared go x y (Ok inverse) error was device refuses none = absurd none
 unprepared go x y (Err e) error was device refuses is = record {
   same = was;
   ready = tt;
@@ -303,12 +323,12 @@ unprepared go x y (Err e) error was device refuses is = record {
 }
 
 -- there is no plan
-pub no_plan : (x y : Engine) (c : Edit) (e : DocumentEffect) (r : Result (Option CodeSpan) EditError) (fault : PlanFault) → AsBefore x.state y.state → HasItsMap x.state → Means x.state c (Ok e) → HasNoPlan x.state.index x.state.map e fault
+pub no_plan : (x y : Engine) (c : Edit) (e : DocumentEffect) (r : Result Inverse EditError) (fault : PlanFault) → AsBefore x.state y.state → HasItsMap x.state → Means x.state c (Ok e) → HasNoPlan x.state.index x.state.map e fault
     → IsErrAnd r (λ z. z ≡ unplanned fault) → Prepares (λ s. after_edit s c) x y r
 no_plan x y c e r fault was own leads none is = unprepared (λ s. after_edit s c) x y r (unplanned fault) was (unplanned_device fault) (no_place_for x.state c e fault own leads none) is
 
 -- the edit is refused before it is planned
-pub refused : (x : Engine) (c : Edit) (r : Result (Option CodeSpan) EditError) (error : EditError) (refusal : Refusal) → refusal_of error ≡ Some refusal → Means x.state c (Err refusal) → IsErrAnd r (λ z. z ≡ error) → Prepares (λ s. after_edit s c) x x r
+pub refused : (x : Engine) (c : Edit) (r : Result Inverse EditError) (error : EditError) (refusal : Refusal) → refusal_of error ≡ Some refusal → Means x.state c (Err refusal) → IsErrAnd r (λ z. z ≡ error) → Prepares (λ s. after_edit s c) x x r
 refused x c r error refusal tells is same =
     unprepared (λ s. after_edit s c) x x r error (before_here x.state) (no_device error refusal tells)
     (λ o bytes live s has. subst (λ (z : Option Refusal). IfSome z (λ w. after_edit s c ≡ Err w)) (sym tells) (ap (λ z. z >>= after_effect s) (is o bytes live s has))) same

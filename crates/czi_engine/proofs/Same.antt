@@ -18,9 +18,11 @@ use Rattle.czi_plan.specs.declared.plan.EditPlan.{EditPlan}
 use Rattle.czi_region.specs.declared.block.Region.{Region}
 use Rattle.czi_space.specs.State.{MapState}
 use Rattle.czi_engine.specs.Editing.{AsBefore}
-use Rattle.czi_engine.specs.Standing.{AreWhole, HasItsMap, HasState, HoldBack, Origin, StandsOnRig, held_by}
+use Rattle.czi_undo.specs.Holding.{holds_of}
+use Rattle.czi_undo.specs.declared.inverse.Inverse.{Inverse}
+use Rattle.czi_engine.specs.Standing.{BringBack, FewKept, HasItsMap, HasState, HoldBack, Origin, StandsOnRig, held_by}
 use Rattle.czi_engine.specs.declared.engine.EngineState.{EngineState}
-use Rattle.czi_engine.specs.Prepared.{HasMemory, KeepsPlan}
+use Rattle.czi_engine.specs.Prepared.{HasMemory, KeepsPlan, edits_after}
 use Rattle.czi_engine.specs.declared.engine.Engine.{Engine}
 
 module _ (x y : EngineState) (same : AsBefore x y) where
@@ -29,7 +31,8 @@ module _ (x y : EngineState) (same : AsBefore x y) where
     stands = has.stands;
     holds = holds_still x.index y.index live same.index has.holds;
     lies = lies_still x.index y.index s.layout same.index has.lies;
-    edits = subst (HoldBack (items_of s.layout) s.formers) (sym same.edits) has.edits;
+    edits = subst (λ (is : List Inverse). HoldBack (items_of s.layout) s.formers (map holds_of is)) (sym same.edits) has.edits;
+    back = subst (BringBack bytes live s) (sym same.edits) has.back;
     number = same.number ∙ has.number;
     kept = has.kept;
   }
@@ -37,7 +40,7 @@ module _ (x y : EngineState) (same : AsBefore x y) where
   pub same_map : HasItsMap x → HasItsMap y
   same_map own = record {
     extents = same.map.extents ∙ (own.extents ∙ ap (map span_of) (sym same.index.extents));
-    held = same.map.held ∙ (own.held ∙ ap held_by (sym same.edits));
+    held = same.map.held ∙ (own.held ∙ ap (λ is. held_by (map holds_of is)) (sym same.edits));
     length = same.map.length ∙ (own.length ∙ sym same.index.length);
   }
 
@@ -49,8 +52,7 @@ module _ (x y : EngineState) (same : AsBefore x y) where
     armed = subst (λ j. ForSome (known s Journal) (Everywhere (IsJournal j))) (sym same.journal) on.armed;
     idle = λ off. on.idle (sym (ap (λ j. j.armed) same.journal) ∙ off);
     own_map = same_map on.own_map;
-    whole = subst AreWhole (sym same.edits) on.whole;
-    few = subst (λ (es : List (Option CodeSpan)). length es ≤ 32) (sym same.edits) on.few;
+    few = subst FewKept (sym same.edits) on.few;
   }
 
 module _ (x z : Engine) (k : KeepsPlan x z) where
@@ -68,13 +70,12 @@ module _ (x z : Engine) (k : KeepsPlan x z) where
     index = subst (λ (e : EditPlan). HasRoom e.change (length z.state.map.extents + (2 * length e.used.items + 2 * length e.freed.items)) z.state.index) (sym k.plan)
         (subst (λ (m : MapState). HasRoom x.scratch.plan.change (length m.extents + (2 * length x.scratch.plan.used.items + 2 * length x.scratch.plan.freed.items)) z.state.index) (sym k.map)
         (subst (λ (i : Index). HasRoom x.scratch.plan.change (length x.state.map.extents + (2 * length x.scratch.plan.used.items + 2 * length x.scratch.plan.freed.items)) i) (sym k.index) h.index));
-    edits = subst (λ v. vec_len v + 1 ≤ vec_capacity v) (sym k.edits) h.edits;
   }
 
   pub map_carried : HasItsMap x.state → HasItsMap z.state
   map_carried own = record {
     extents = ap (λ (m : MapState). m.extents) k.map ∙ (own.extents ∙ ap (λ (i : Index). map span_of i.extents.items) (sym k.index));
-    held = ap (λ (m : MapState). m.held) k.map ∙ (own.held ∙ ap (λ v. held_by v.items) (sym k.edits));
+    held = ap (λ (m : MapState). m.held) k.map ∙ (own.held ∙ ap (λ is. held_by (map holds_of is)) (sym k.edits));
     length = ap (λ (m : MapState). m.length) k.map ∙ (own.length ∙ ap (λ (i : Index). i.length) (sym k.index));
   }
 
@@ -86,8 +87,8 @@ module _ (x z : Engine) (k : KeepsPlan x z) where
   pub extents_carried : (y : EngineState) → map span_of y.index.extents.items ≡ extents_after z.scratch.plan z.state.map.extents → map span_of y.index.extents.items ≡ extents_after x.scratch.plan x.state.map.extents
   extents_carried y e = e ∙ (λ i. extents_after (k.plan i) ((k.map i).extents))
 
-  pub edits_carried : (y : EngineState) (held : Option CodeSpan) → y.edits.items ≡ held ∷ take 31 z.state.edits.items → y.edits.items ≡ held ∷ take 31 x.state.edits.items
-  edits_carried y held e = e ∙ ap (λ v. held ∷ take 31 v.items) k.edits
+  pub edits_carried : (y : EngineState) (inverse : Inverse) → y.edits ≡ edits_after inverse z.state → y.edits ≡ edits_after inverse x.state
+  edits_carried y inverse e = e ∙ ap (λ is. inverse ∷ take 31 is) k.edits
 
   pub number_carried : (y : EngineState) → y.number ≡ one_more z.state.number → y.number ≡ one_more x.state.number
   number_carried y e = e ∙ ap one_more k.number

@@ -113,6 +113,6 @@ pub record AsBefore (old new : EngineState) : Type 0 where
   pub journal : new.journal ≡ old.journal
   pub index : IsSame old.index new.index
   pub map : Has new.map old.map.extents old.map.held old.map.length
-  pub edits : new.edits.items ≡ old.edits.items
+  pub edits : new.edits ≡ old.edits
   pub number : new.number ≡ old.number
   pub down : new.down ≡ old.down

@@ -26,6 +26,7 @@ use Rattle.czi_engine.specs.Holes.{holes_of, AreHigh, view_of}
 use Rattle.czi_engine.specs.Moment.{AlikeInItems, BringsApart}
 use Rattle.czi_engine.specs.Rests.{RestsOn}
 use Rattle.czi_engine.specs.Stands.{Opens, OpensAs, ShowsWhole, EitherSide, StandsOn}
+use Rattle.czi_format.specs.declared.numbers.TheConstants.{UPDATE_PENDING}
 
 -- the holes of a state in bytes are high
 abbrev pub HolesAreHigh : Type 0
@@ -70,7 +71,7 @@ OpenedStands = (bytes : List ℕ) (live : Live) (s : State) → IsSettled bytes 
 
 -- the bytes of a commit are those of its pieces, and elsewhere what was there
 abbrev pub MadeWrote : Type 0
-MadeWrote = (bytes : List ℕ) (c : Step) → IsStep bytes c → Wrote bytes (made_of c bytes) (pieces_in c) × (length (made_of c bytes) ≡ c.commits.committed) × (slice_index (made_of c bytes) 100 ≡ 0)
+MadeWrote = (bytes : List ℕ) (c : Step) → IsStep bytes c → Wrote bytes (made_of c bytes) (pieces_in c) × (length (made_of c bytes) ≡ c.commits.committed) × (slice_index (made_of c bytes) UPDATE_PENDING ≡ 0)
 
 -- after a command was committed, the bytes have the state to which the command leads
 abbrev pub CommitStands : Type 0
@@ -107,4 +108,4 @@ WrittenHasBytes = (bytes : List ℕ) (s : State) (high : AreHigh s) (c : Step) �
 
 -- no link of a planned command is written over the first byte of UpdatePending
 abbrev pub CommitLeaves100 : Type 0
-CommitLeaves100 = (start bytes : List ℕ) (live : Live) (s s' : State) (t : LiveChange) (c : Step) → StandsOn start bytes live s → IsPlanned bytes live s s' t c → Covers (ranges c.commits.links) 100 → ⊥
+CommitLeaves100 = (start bytes : List ℕ) (live : Live) (s s' : State) (t : LiveChange) (c : Step) → StandsOn start bytes live s → IsPlanned bytes live s s' t c → Covers (ranges c.commits.links) UPDATE_PENDING → ⊥

@@ -21,9 +21,18 @@ use Rattle.czi_links.specs.declared.head.SlotHead.{SlotHead}
 use Rattle.czi_opening.specs.declared.opening.Opened.{Opened}
 use Rattle.czi_opening.specs.Answers.{IsJournal}
 use Rattle.czi_space.specs.State.{Has}
+use Rattle.czi_undo.specs.Holding.{holds_of}
+use Rattle.czi_undo.specs.Laws.{LiesBefore}
+use Rattle.czi_undo.specs.Stands.{AreSingle}
+use Rattle.czi_undo.specs.Told.{Single}
+use Rattle.czi_undo.specs.declared.inverse.Inverse.{Inverse}
 use Rattle.czi_vault.specs.Recovered.{Recovered}
 use Rattle.czi_engine.specs.Stands.{StandsOn}
 use Rattle.czi_engine.specs.declared.engine.EngineState.{EngineState}
+
+-- what each of an engine's inverses holds back, the newest first
+abbrev pub spans_held : EngineState → List (Option CodeSpan)
+spans_held x = map holds_of x.edits
 
 -- the spans that edits hold back, in order of place
 abbrev pub held_by : List (Option CodeSpan) → List Span
@@ -37,7 +46,7 @@ AreWhole edits = AllByRecursion (λ (e : Option CodeSpan). ForSome e (λ s. IsWh
 
 -- the map has the extents and the length of the index, and holds back what the edits do
 abbrev pub HasItsMap : EngineState → Type 0
-HasItsMap x = Has x.map (map span_of x.index.extents.items) (held_by x.edits.items) x.index.length
+HasItsMap x = Has x.map (map span_of x.index.extents.items) (held_by (spans_held x)) x.index.length
 
 -- An edit holds back what the former document before it has and the next newer one hasn't, as far as that can be used again.
 -- Each former takes one edit back. The newest edit, and the newest former, stand first.
@@ -71,13 +80,31 @@ pub record IsKept (o : Origin) (bytes : List ℕ) (l : Layout) (x : Span) : Type
 abbrev pub KeepsItems : Origin → (bytes : List ℕ) → Layout → Type 0
 KeepsItems o bytes l = AllByRecursion (IsKept o bytes l) o.items
 
--- An engine has a state that stands on these bytes: its index holds what is live and has the state's layout, and its edits
--- hold back what undos may bring back. No item was written into that has been there since the start.
+-- each takes one edit back
+abbrev pub TakeOneBack : List Inverse → Type 0
+TakeOneBack inverses = AllByRecursion (λ (i : Inverse). i.edits ≡ 1) inverses
+
+-- Inverses that an engine keeps: at most 32, of single edits; what they hold back begins and ends at multiples of 32.
+pub record FewKept (inverses : List Inverse) : Type 0 where
+  pub whole : AreWhole (map holds_of inverses)
+  pub ones : TakeOneBack inverses
+  pub few : length inverses ≤ 32
+
+-- Inverses bring a state's former documents back over these bytes, each as it is told for a single edit.
+pub record BringBack (bytes : List ℕ) (live : Live) (s : MachineState) (inverses : List Inverse) : Type 0 where
+  pub told : List Single
+  pub single : AreSingle inverses told
+  pub back : LiesBefore bytes live s told
+
+-- An engine has a state that stands on these bytes: its index holds what is live and has the state's layout, and its inverses
+-- hold back what undos may bring back, and bring the former documents back. No item was written into that has been there since
+-- the start.
 pub record HasState (o : Origin) (bytes : List ℕ) (live : Live) (s : MachineState) (x : EngineState) : Type 0 where
   pub stands : StandsOn o.bytes bytes live s
   pub holds : Holds live x.index
   pub lies : LiesAs s.layout x.index
-  pub edits : HoldBack (items_of s.layout) s.formers x.edits.items
+  pub edits : HoldBack (items_of s.layout) s.formers (spans_held x)
+  pub back : BringBack bytes live s x.edits
   pub number : x.number ≡ s.number
   pub kept : KeepsItems o bytes s.layout
 
@@ -114,15 +141,14 @@ pub record StandsOnRig (s : State) (x : EngineState) : Type 0 where
   pub armed : ForSome (known s Journal) (Everywhere (IsJournal x.journal))
   pub idle : x.journal.armed ≡ false → ForSome (known s Journal) IsAtRest
   pub own_map : HasItsMap x
-  pub whole : AreWhole x.edits.items
-  pub few : length x.edits.items ≤ 32
+  pub few : FewKept x.edits
 
 -- the engine has the index and the journal that an opening answered, and no edits
 pub record IsOf (o : Opened) (x : EngineState) : Type 0 where
   pub journal : x.journal ≡ o.journal
   pub index : x.index ≡ o.index
   pub own_map : HasItsMap x
-  pub edits : x.edits.items ≡ []
+  pub edits : x.edits ≡ []
 
 -- the image's GUID and its length
 abbrev pub file_of : EngineState → SlotHead

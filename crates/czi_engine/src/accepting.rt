@@ -1,65 +1,60 @@
 //! Taking a plan over into the engine, once it is committed. Its memory is taken before the first write.
 
-ghost use Rattle.std.specs.Prelude.{◌≡◌, ◌+◌, ◌≤◌, ◌∷◌, length, map, take, OnOk, vec_len, vec_capacity};
+ghost use Rattle.std.specs.Prelude.{◌≡◌, ◌+◌, ◌≤◌, ◌∷◌, length, map, take, OnOk};
 ghost use Rattle.czi_image.specs.Applied.{IsChanged};
 ghost use Rattle.czi_machine.specs.Machine.{one_more};
 ghost use Rattle.czi_num.specs.Span.{span_of};
 ghost use Rattle.czi_plan.specs.Plan.{IsPlan, extents_after};
 ghost use Rattle.czi_space.specs.State.{Has};
 ghost use Rattle.czi_engine.specs.Editing.{AsBefore};
-ghost use Rattle.czi_engine.specs.Prepared.{HasMemory};
-ghost use Rattle.czi_engine.specs.Standing.{HasItsMap, held_by};
+ghost use Rattle.czi_engine.specs.Prepared.{HasMemory, edits_after};
+ghost use Rattle.czi_engine.specs.Standing.{HasItsMap, TakeOneBack, held_by, spans_held};
 
 use crate::engine::{Engine, EngineState};
-use crate::opening::EDITS;
 use czi_image::Change;
-use czi_num::Span;
 use czi_plan::update_map;
+use czi_undo::Inverse;
 use std::alloc::AllocError;
 use std::mem;
 
 impl EngineState {
-    /// Forgets the oldest edit where as many are kept as may be.
+    /// Takes the oldest inverse off where there are more than may be kept, and gives back what it holds.
     fn forget_oldest(&mut self)
-        requires held { self.old.map.held ≡ held_by self.old.edits.items }
-        requires few { length self.old.edits.items ≤ 32 }
-        ensures edits { self.new.edits.items ≡ take 31 self.old.edits.items }
-        ensures map { Has self.new.map self.old.map.extents (held_by self.new.edits.items) self.old.map.length }
-        ensures spare { self.old.map.spare ≤ self.new.map.spare }
-        ensures capacity { vec_capacity self.new.edits ≡ vec_capacity self.old.edits }
+        requires held { self.old.map.held ≡ held_by (spans_held self.old) }
+        requires ones { TakeOneBack self.old.edits }
+        requires few { length self.old.edits ≤ 33 }
+        ensures edits { self.new.edits ≡ take 32 self.old.edits }
+        ensures map { Has self.new.map self.old.map.extents (held_by (spans_held self.new)) self.old.map.length }
         ensures index { self.new.index ≡ self.old.index }
         ensures journal { self.new.journal ≡ self.old.journal }
         ensures number { self.new.number ≡ self.old.number }
         ensures down { self.new.down ≡ self.old.down }
     {
-        if self.edits.len() < EDITS {
-            return;
-        }
-        match self.edits.pop() {
-            Some(Some(span)) => self.map.unhold(&span),
-            Some(None) => {}
-            None => {}
+        if let Some(oldest) = self.edits.over() {
+            if let Some(span) = oldest.holds() {
+                self.map.unhold(&span);
+            }
         }
     }
 
-    /// Keeps one more edit, with the span that it holds back.
-    fn keep_edit(&mut self, held: Option<Span>)
-        requires held { self.old.map.held ≡ held_by self.old.edits.items }
-        requires few { length self.old.edits.items ≤ 32 }
+    /// Keeps one inverse more. The map holds back what it does.
+    fn keep_inverse(&mut self, inverse: Inverse)
+        requires held { self.old.map.held ≡ held_by (spans_held self.old) }
+        requires ones { TakeOneBack (inverse ∷ self.old.edits) }
+        requires few { length self.old.edits ≤ 32 }
         requires spare { 1 ≤ self.old.map.spare }
-        requires memory { vec_len self.old.edits + 1 ≤ vec_capacity self.old.edits }
-        ensures edits { self.new.edits.items ≡ held ∷ take 31 self.old.edits.items }
-        ensures map { Has self.new.map self.old.map.extents (held_by self.new.edits.items) self.old.map.length }
+        ensures edits { self.new.edits ≡ edits_after inverse self.old }
+        ensures map { Has self.new.map self.old.map.extents (held_by (spans_held self.new)) self.old.map.length }
         ensures index { self.new.index ≡ self.old.index }
         ensures journal { self.new.journal ≡ self.old.journal }
         ensures number { self.new.number ≡ self.old.number }
         ensures down { self.new.down ≡ self.old.down }
     {
-        self.forget_oldest();
-        if let Some(span) = &held {
-            self.map.hold(span);
+        if let Some(span) = inverse.holds() {
+            self.map.hold(&span);
         }
-        let _ = self.edits.insert(0, held);
+        self.edits.push_reserved(inverse);
+        self.forget_oldest();
     }
 }
 
@@ -82,21 +77,21 @@ impl Engine {
         let attachments = plan.change.attachments.len();
         self.state.map.reserve(spans + 1)?;
         self.state.index.reserve(tiles, attachments, spans)?;
-        self.state.edits.reserve(1)?;
         Ok(())
     }
 
-    /// Takes the plan over, and the span that its command holds back. It takes no memory.
-    pub(crate) fn take_over(&mut self, held: Option<Span>)
+    /// Takes the plan of an edit over, and what undoes it. It takes no memory.
+    pub(crate) fn take_over(&mut self, inverse: Inverse)
         requires plan { IsPlan self.old.state.index self.old.state.map self.old.scratch.region self.old.scratch.plan }
         requires memory { HasMemory self.old }
         requires own_map { HasItsMap self.old.state }
-        requires few { length self.old.state.edits.items ≤ 32 }
+        requires ones { TakeOneBack (inverse ∷ self.old.state.edits) }
+        requires few { length self.old.state.edits ≤ 32 }
 
         ensures index { IsChanged self.old.scratch.plan.change self.new.state.index.extents.items self.old.scratch.plan.length self.old.state.index self.new.state.index }
         ensures extents { map span_of self.new.state.index.extents.items ≡ extents_after self.old.scratch.plan self.old.state.map.extents }
         ensures own_map { HasItsMap self.new.state }
-        ensures edits { self.new.state.edits.items ≡ held ∷ take 31 self.old.state.edits.items }
+        ensures edits { self.new.state.edits ≡ edits_after inverse self.old.state }
         ensures number { self.new.state.number ≡ one_more self.old.state.number }
         ensures journal { self.new.state.journal ≡ self.old.state.journal }
         ensures down { self.new.state.down ≡ self.old.state.down }
@@ -108,7 +103,7 @@ impl Engine {
         self.state
             .index
             .apply(change, self.state.map.extents(), plan.length);
-        self.state.keep_edit(held);
+        self.state.keep_inverse(inverse);
         self.state.number = self.state.number.saturating_add(1);
     }
 }

@@ -19,6 +19,7 @@ ghost use Rattle.czi_engine.specs.Devices.{edit_device};
 ghost use Rattle.czi_engine.specs.Editing.{error_of, is_device};
 ghost use Rattle.czi_engine.specs.Prepared.{KeepsPlan};
 ghost use Rattle.czi_engine.specs.Standing.{StandsOnRig, file_of};
+ghost use Rattle.czi_format.specs.declared.numbers.TheConstants.{UPDATE_PENDING};
 
 use crate::engine::Engine;
 use crate::error::EditError;
@@ -34,8 +35,8 @@ impl Engine {
         requires up { IsFalse self.old.state.down }
         requires plan { IsPlan self.old.state.index self.old.state.map self.old.scratch.region self.old.scratch.plan }
 
-        ensures moments { ForSome (devices (R.state rig.old)) (λ all. (view : View) → StandsNow view all → HasBytes view all.image.seen → slice_index all.image.seen 100 ≡ 0
-            → (Covers (ranges self.old.scratch.plan.links.links) 100 → ⊥) → AreFree view (filled self.old.state.index.length (writes_of self.old.scratch.region self.old.scratch.plan))
+        ensures moments { ForSome (devices (R.state rig.old)) (λ all. (view : View) → StandsNow view all → HasBytes view all.image.seen → slice_index all.image.seen UPDATE_PENDING ≡ 0
+            → (Covers (ranges self.old.scratch.plan.links.links) UPDATE_PENDING → ⊥) → AreFree view (filled self.old.state.index.length (writes_of self.old.scratch.region self.old.scratch.plan))
             → Throughout R.Rig rig.old rig.new (λ image j said. KeepsOr view (made self.old.state.index.length (step_of (file_of self.old.state) self.old.scratch.region self.old.scratch.plan) all.image.seen) image j × (said ≡ all.said))) }
         ensures image { OnOk result (known (R.state rig.new) File.Image ≡ option_map (λ disk. at_rest (made self.old.state.index.length (step_of (file_of self.old.state) self.old.scratch.region self.old.scratch.plan) disk.seen)) (known (R.state rig.old) File.Image)) }
         ensures committed { OnOk result (ForSome (devices (R.state rig.old)) (λ all. ForSome (devices (R.state rig.new)) (λ now. (image j said : List ℕ) → LeavesNow now image j said

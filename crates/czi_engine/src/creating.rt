@@ -97,7 +97,7 @@ impl Engine {
         ensures stands { IfOk result (λ e. StandsOnRig (R.state rig.new) e.state) }
         ensures fresh { IfOk result (λ e. IsOpened (R.state rig.new) e.state) }
         ensures up { IfOk result (λ e. e.state.down ≡ false) }
-        ensures no_edits { IfOk result (λ e. (e.state.edits.items ≡ []) × (e.state.number ≡ 0)) }
+        ensures no_edits { IfOk result (λ e. (e.state.edits ≡ []) × (e.state.number ≡ 0)) }
         // Where the image isn't empty, or memory is wanting, both files are as they were, and synced.
         ensures kept { IfErr result (λ error. create_device error ≡ None → AreSynced (R.state rig.old) (R.state rig.new)) }
         // Until both files are synced nothing is left that the start couldn't leave. From then on each pair is refused, or opens to the empty document.
@@ -116,7 +116,7 @@ impl Engine {
     fn of_empty(alloc: Global, guid: &[u8; 16]) -> Result<Engine, AllocError>
         ensures of { IfOk result (λ e. (o : Opened) × IsOf o e.state × Indexes (empty_image guid.now) o.index × (o.journal.armed ≡ false)) }
         ensures up { IfOk result (λ e. e.state.down ≡ false) }
-        ensures no_edits { IfOk result (λ e. (e.state.edits.items ≡ []) × (e.state.number ≡ 0)) }
+        ensures no_edits { IfOk result (λ e. (e.state.edits ≡ []) × (e.state.number ≡ 0)) }
     {
         let index = index_in_memory(alloc, &empty_image(guid))?;
         let journal = Journal {

@@ -1,40 +1,39 @@
 //! What every edit does once it was prepared.
 
-ghost use Rattle.std.specs.Prelude.{◌≡◌, Result, Option, IfOk, IfErr, IsFalse};
-ghost use Rattle.czi_num.specs.declared.span.Span.{Span as CodeSpan};
+ghost use Rattle.std.specs.Prelude.{◌≡◌, Result, IfOk, IfErr, IsFalse};
 ghost use Rattle.czi_engine.specs.Edited.{Edits};
 ghost use Rattle.czi_engine.specs.Editing.{Goes};
-ghost use Rattle.czi_engine.specs.Prepared.{IsPrepared, Prepares};
+ghost use Rattle.czi_engine.specs.Prepared.{IsPrepared, Prepares, edits_after};
 ghost use Rattle.czi_engine.specs.Standing.{StandsOnRig};
 ghost use Rattle.czi_engine.specs.declared.engine.Engine.{Engine as EngineValue};
 
 use crate::engine::Engine;
 use crate::error::EditError;
-use czi_num::Span;
 use czi_rig::Rig;
+use czi_undo::Inverse;
 
 impl Engine {
     /// Carries out the plan that was prepared, takes it over, and answers how many edits were accepted.
-    fn commit<R: Rig>(&mut self, rig: &mut R, held: Option<Span>) -> Result<u64, EditError>
+    fn commit<R: Rig>(&mut self, rig: &mut R, inverse: Inverse) -> Result<u64, EditError>
         requires stands { StandsOnRig (R.state rig.old) self.old.state }
         requires up { IsFalse self.old.state.down }
-        requires prepared { (go : Goes) × IsPrepared go self.old held }
-        ensures { (go : Goes) → IsPrepared go self.old held → Edits R.Rig go rig.old rig.new self.old.state self.new.state result }
+        requires prepared { (go : Goes) × IsPrepared go self.old (edits_after inverse self.old.state) }
+        ensures { (go : Goes) → IsPrepared go self.old (edits_after inverse self.old.state) → Edits R.Rig go rig.old rig.new self.old.state self.new.state result }
     {
         match self.commit_prepared(rig) {
             Ok(()) => {
-                self.take_over(held);
+                self.take_over(inverse);
                 Ok(self.state.number)
             }
             Err(error) => Err(error),
         }
     }
 
-    /// Carries out what was prepared, with the span that it holds back, or answers why there is no plan. All edits come here.
+    /// Carries out what was prepared, with what undoes it, or answers why there is no plan. All edits come here.
     pub(crate) fn edit<R: Rig>(
         &mut self,
         rig: &mut R,
-        prepared: Result<Option<Span>, EditError>,
+        prepared: Result<Inverse, EditError>,
     ) -> Result<u64, EditError>
         requires stands { StandsOnRig (R.state rig.old) self.old.state }
         requires up { IsFalse self.old.state.down }
@@ -42,7 +41,7 @@ impl Engine {
         ensures { (go : Goes) (was : EngineValue) → Prepares go was self.old prepared → Edits R.Rig go rig.old rig.new was.state self.new.state result }
     {
         match prepared {
-            Ok(held) => self.commit(rig, held),
+            Ok(inverse) => self.commit(rig, inverse),
             Err(error) => Err(error),
         }
     }

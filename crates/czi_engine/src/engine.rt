@@ -5,10 +5,10 @@ ghost use Rattle.czi_links.specs.declared.numbers.TheConstants.{SLOT_LEN};
 
 use czi_image::{Index, Tile};
 use czi_journal::Journal;
-use czi_num::Span;
 use czi_plan::EditPlan;
 use czi_region::Region;
 use czi_space::Map;
+use czi_undo::UndoList;
 use std::alloc::Global;
 
 /// What an engine stands on.
@@ -17,8 +17,8 @@ pub(crate) struct EngineState {
     pub(crate) journal: Journal,
     pub(crate) index: Index,
     pub(crate) map: Map,
-    /// The span that each of the last 32 accepted edits holds back, if it holds one. The newest edit is the first.
-    pub(crate) edits: Vec<Option<Span>>,
+    /// What undoes the last 32 accepted edits, the newest first. The map holds back what they bring back.
+    pub(crate) edits: UndoList,
     pub(crate) number: u64,
     pub(crate) down: bool,
 }

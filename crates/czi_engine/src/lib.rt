@@ -17,6 +17,7 @@ mod opening;
 mod planning;
 mod preparing;
 mod subblocks;
+mod undoing;
 
 pub use creating::CreateError;
 pub use czi_opening::{ImageRefusal, OpenError};

@@ -26,10 +26,8 @@ use czi_plan::EditPlan;
 use czi_region::Region;
 use czi_rig::{Failed, File, Rig};
 use czi_space::Map;
+use czi_undo::UndoList;
 use std::alloc::{AllocError, Global};
-
-/// How many edits hold a span back at most.
-pub(crate) const EDITS: usize = 32;
 
 /// The map of an index. No span is held back.
 fn map_of(alloc: Global, index: &Index) -> Result<Map, AllocError>
@@ -54,7 +52,7 @@ impl Engine {
         ensures stands { IfOk result (λ e. StandsOnRig (R.state rig.new) e.state) }
         ensures fresh { IfOk result (λ e. IsOpened (R.state rig.new) e.state) }
         ensures up { IfOk result (λ e. e.state.down ≡ false) }
-        ensures no_edits { IfOk result (λ e. (e.state.edits.items ≡ []) × (e.state.number ≡ 0)) }
+        ensures no_edits { IfOk result (λ e. (e.state.edits ≡ []) × (e.state.number ≡ 0)) }
         // A refusal tells its cause; there is one exactly where the files don't open.
         ensures refused { IfErr result (λ error. ForSome (seen_of (R.state rig.old) File.Image) (λ image. ForSome (seen_of (R.state rig.old) File.Journal) (λ journal.
             Tells image journal (R.state rig.new) error))) }
@@ -77,11 +75,11 @@ impl Engine {
     pub(crate) fn of(alloc: Global, opened: Opened) -> Result<Engine, AllocError>
         ensures of { IfOk result (λ e. IsOf opened e.state) }
         ensures up { IfOk result (λ e. e.state.down ≡ false) }
-        ensures no_edits { IfOk result (λ e. (e.state.edits.items ≡ []) × (e.state.number ≡ 0)) }
+        ensures no_edits { IfOk result (λ e. (e.state.edits ≡ []) × (e.state.number ≡ 0)) }
     {
         let map = map_of(alloc, &opened.index)?;
         let slot = vec![in alloc; 0u8; SLOT_LEN]?;
-        let edits = Vec::with_capacity(alloc, EDITS)?;
+        let edits = UndoList::new(alloc)?;
         let state = EngineState {
             journal: opened.journal,
             index: opened.index,
@@ -111,7 +109,7 @@ impl Engine {
         ensures fresh { OnOk result (IsOpened (R.state rig.new) self.new.state) }
         ensures up { OnOk result (self.new.state.down ≡ false) }
         ensures down { OnErr result (self.new.state.down ≡ true) }
-        ensures no_edits { OnOk result (self.new.state.edits.items ≡ []) }
+        ensures no_edits { OnOk result (self.new.state.edits ≡ []) }
         ensures number { self.new.state.number ≡ self.old.state.number }
         ensures refused { IfErr result (λ error. ForSome (seen_of (R.state rig.old) File.Image) (λ image. ForSome (seen_of (R.state rig.old) File.Journal) (λ journal.
             Tells image journal (R.state rig.new) error))) }
@@ -133,7 +131,7 @@ impl Engine {
     fn restart(&mut self, opened: Opened) -> Result<(), AllocError>
         ensures of { OnOk result (IsOf opened self.new.state) }
         ensures up { OnOk result (self.new.state.down ≡ false) }
-        ensures no_edits { OnOk result (self.new.state.edits.items ≡ []) }
+        ensures no_edits { OnOk result (self.new.state.edits ≡ []) }
         ensures number { self.new.state.number ≡ self.old.state.number }
         ensures same { OnErr result (self.new ≡ self.old) }
     {

@@ -1,6 +1,6 @@
 //! Planning an edit that nothing refuses, and taking all memory for it.
 
-ghost use Rattle.std.specs.Prelude.{◌≡◌, ◌≤◌, [], Ok, length, option_to_list, IfErr, OnOk};
+ghost use Rattle.std.specs.Prelude.{◌≡◌, ◌≤◌, [], Ok, length, IfErr, OnOk};
 ghost use Rattle.czi_machine.specs.Edit.{Edit};
 ghost use Rattle.czi_machine.specs.Machine.{after_edit};
 ghost use Rattle.czi_plan.specs.Conditions.{IsEmpty, IsMapOf};
@@ -8,21 +8,20 @@ ghost use Rattle.czi_plan.specs.Does.{Does, HasNoPlan};
 ghost use Rattle.czi_plan.specs.Plan.{IsPlan};
 ghost use Rattle.czi_region.specs.Pieces.{bytes_put};
 ghost use Rattle.czi_engine.specs.Prepared.{Prepares};
-ghost use Rattle.czi_engine.specs.Standing.{AreWhole, HasItsMap};
+ghost use Rattle.czi_engine.specs.Standing.{FewKept, HasItsMap};
 ghost use Rattle.czi_engine.specs.Tasks.{IsAllowed, Means, effect_of};
 
 use crate::engine::Engine;
 use crate::error::EditError;
 use czi_doc::{AttInfo, EntryInfo};
 use czi_image::Index;
-use czi_num::Span;
 use czi_plan::{
     EditPlan, PlanFault, plan_add, plan_attach, plan_detach_at, plan_reattach_at, plan_remove_at,
     plan_replace_at, plan_set_meta,
 };
 use czi_region::Region;
 use czi_space::Map;
-use std::alloc::Global;
+use czi_undo::Inverse;
 
 /// What a new subblock holds.
 #[derive(Clone, Copy)]
@@ -56,7 +55,6 @@ impl<'a> Task<'a> {
     /// Plans it.
     fn plan(
         self,
-        alloc: Global,
         index: &Index,
         map: &Map,
         region: &mut Region,
@@ -73,47 +71,40 @@ impl<'a> Task<'a> {
     {
         match self {
             Task::Add(new) => plan_add(
-                alloc, index, map, new.info, new.meta, new.pixels, new.tail, region, out,
+                index, map, new.info, new.meta, new.pixels, new.tail, region, out,
             ),
             Task::Replace(i, new) => plan_replace_at(
-                alloc, index, map, i, new.info, new.meta, new.pixels, new.tail, region, out,
+                index, map, i, new.info, new.meta, new.pixels, new.tail, region, out,
             ),
-            Task::Remove(i) => plan_remove_at(alloc, index, map, i, region, out),
-            Task::Attach(info, bytes) => plan_attach(alloc, index, map, info, bytes, region, out),
+            Task::Remove(i) => plan_remove_at(index, map, i, region, out),
+            Task::Attach(info, bytes) => plan_attach(index, map, info, bytes, region, out),
             Task::Reattach(i, info, bytes) => {
-                plan_reattach_at(alloc, index, map, i, info, bytes, region, out)
+                plan_reattach_at(index, map, i, info, bytes, region, out)
             }
-            Task::Detach(i) => plan_detach_at(alloc, index, map, i, region, out),
-            Task::SetMeta(xml, tail) => plan_set_meta(alloc, index, map, xml, tail, region, out),
+            Task::Detach(i) => plan_detach_at(index, map, i, region, out),
+            Task::SetMeta(xml, tail) => plan_set_meta(index, map, xml, tail, region, out),
         }
     }
 }
 
-/// The span that a plan holds back, if it does one.
-fn held_by(plan: &EditPlan) -> Option<Span>
-    ensures { length plan.now.held.items ≤ 1 → option_to_list result ≡ plan.now.held.items }
-{
-    plan.held.first().copied()
-}
-
 impl Engine {
-    /// Plans an edit, and takes all memory for it. The answer is the span that it holds back.
-    pub(crate) fn prepare(&mut self, task: Task) -> Result<Option<Span>, EditError>
+    /// Plans an edit, and takes all memory for it. The answer is what undoes it.
+    pub(crate) fn prepare(&mut self, task: Task) -> Result<Inverse, EditError>
         requires own_map { HasItsMap self.old.state }
-        requires whole { AreWhole self.old.state.edits.items }
+        requires few { FewKept self.old.state.edits }
         requires allowed { IsAllowed task self.old.state.index }
         ensures { (c : Edit) → Means self.old.state c (Ok (effect_of task.entry self.old.state.index)) → Prepares (λ s. after_edit s c) self.old self.new result }
     {
         self.scratch.region.reset();
         self.scratch.plan.clear();
         task.plan(
-            self.scratch.alloc,
             &self.state.index,
             &self.state.map,
             &mut self.scratch.region,
             &mut self.scratch.plan,
         )?;
+        let inverse = task.inverse(self.scratch.alloc, &self.state.index)?;
         self.take_memory()?;
-        Ok(held_by(&self.scratch.plan))
+        Ok(inverse)
     }
 }

@@ -1,4 +1,4 @@
-//! Preparing an edit: what refuses it, or its plan, with all memory for it. The answer is the span that it holds back.
+//! Preparing an edit: what refuses it, or its plan, with all memory for it. The answer is what undoes it.
 
 ghost use Rattle.czi_doc.specs.View.{dims_of};
 ghost use Rattle.czi_machine.specs.Edit.{add, attach, detach, reattach, remove, replace, set_meta};
@@ -6,7 +6,7 @@ ghost use Rattle.czi_machine.specs.Machine.{after_edit};
 ghost use Rattle.czi_plan.specs.Attaching.{attachment_in, metadata_in};
 ghost use Rattle.czi_plan.specs.Bringing.{subblock_in};
 ghost use Rattle.czi_engine.specs.Prepared.{Prepares};
-ghost use Rattle.czi_engine.specs.Standing.{AreWhole, HasItsMap};
+ghost use Rattle.czi_engine.specs.Standing.{FewKept, HasItsMap};
 
 use crate::engine::Engine;
 use crate::error::EditError;
@@ -14,8 +14,8 @@ use crate::limits::{check_attachment, check_known, check_metadata, check_new, ch
 use crate::planning::{Contents, Task};
 use czi_doc::{AttInfo, Dims, EntryInfo};
 use czi_format::{MOST_ATTACHMENTS, MOST_SUBBLOCKS};
-use czi_num::Span;
 use czi_plan::{attachment_key, attachment_with, tile_with};
+use czi_undo::Inverse;
 
 impl Engine {
     /// Prepares a new subblock.
@@ -25,9 +25,9 @@ impl Engine {
         meta: &[u8],
         pixels: &[u8],
         tail: &[u8],
-    ) -> Result<Option<Span>, EditError>
+    ) -> Result<Inverse, EditError>
         requires own_map { HasItsMap self.old.state }
-        requires whole { AreWhole self.old.state.edits.items }
+        requires few { FewKept self.old.state.edits }
         ensures { Prepares (λ s. after_edit s (add (subblock_in info.now meta.now pixels.now tail.now))) self.old self.new result }
     {
         check_subblock(meta, pixels, tail)?;
@@ -48,9 +48,9 @@ impl Engine {
         meta: &[u8],
         pixels: &[u8],
         tail: &[u8],
-    ) -> Result<Option<Span>, EditError>
+    ) -> Result<Inverse, EditError>
         requires own_map { HasItsMap self.old.state }
-        requires whole { AreWhole self.old.state.edits.items }
+        requires few { FewKept self.old.state.edits }
         ensures { Prepares (λ s. after_edit s (replace (subblock_in info.now meta.now pixels.now tail.now))) self.old self.new result }
     {
         check_subblock(meta, pixels, tail)?;
@@ -67,9 +67,9 @@ impl Engine {
     }
 
     /// Prepares the removal of a subblock.
-    pub(crate) fn prepare_removal(&mut self, dims: &Dims) -> Result<Option<Span>, EditError>
+    pub(crate) fn prepare_removal(&mut self, dims: &Dims) -> Result<Inverse, EditError>
         requires own_map { HasItsMap self.old.state }
-        requires whole { AreWhole self.old.state.edits.items }
+        requires few { FewKept self.old.state.edits }
         ensures { Prepares (λ s. after_edit s (remove (dims_of dims.now))) self.old self.new result }
     {
         let place = check_known(tile_with(&self.state.index, dims))?;
@@ -81,9 +81,9 @@ impl Engine {
         &mut self,
         info: &AttInfo,
         bytes: &[u8],
-    ) -> Result<Option<Span>, EditError>
+    ) -> Result<Inverse, EditError>
         requires own_map { HasItsMap self.old.state }
-        requires whole { AreWhole self.old.state.edits.items }
+        requires few { FewKept self.old.state.edits }
         ensures { Prepares (λ s. after_edit s (attach (attachment_in info.now bytes.now))) self.old self.new result }
     {
         check_attachment(bytes)?;
@@ -97,9 +97,9 @@ impl Engine {
         &mut self,
         info: &AttInfo,
         bytes: &[u8],
-    ) -> Result<Option<Span>, EditError>
+    ) -> Result<Inverse, EditError>
         requires own_map { HasItsMap self.old.state }
-        requires whole { AreWhole self.old.state.edits.items }
+        requires few { FewKept self.old.state.edits }
         ensures { Prepares (λ s. after_edit s (reattach (attachment_in info.now bytes.now))) self.old self.new result }
     {
         check_attachment(bytes)?;
@@ -108,9 +108,9 @@ impl Engine {
     }
 
     /// Prepares the removal of an attachment.
-    pub(crate) fn prepare_detachment(&mut self, name: &[u8]) -> Result<Option<Span>, EditError>
+    pub(crate) fn prepare_detachment(&mut self, name: &[u8]) -> Result<Inverse, EditError>
         requires own_map { HasItsMap self.old.state }
-        requires whole { AreWhole self.old.state.edits.items }
+        requires few { FewKept self.old.state.edits }
         ensures { Prepares (λ s. after_edit s (detach name.now)) self.old self.new result }
     {
         let place = check_known(attachment_with(&self.state.index, name))?;
@@ -118,13 +118,9 @@ impl Engine {
     }
 
     /// Prepares new metadata.
-    pub(crate) fn prepare_metadata(
-        &mut self,
-        xml: &[u8],
-        tail: &[u8],
-    ) -> Result<Option<Span>, EditError>
+    pub(crate) fn prepare_metadata(&mut self, xml: &[u8], tail: &[u8]) -> Result<Inverse, EditError>
         requires own_map { HasItsMap self.old.state }
-        requires whole { AreWhole self.old.state.edits.items }
+        requires few { FewKept self.old.state.edits }
         ensures { Prepares (λ s. after_edit s (set_meta (metadata_in xml.now tail.now))) self.old self.new result }
     {
         check_metadata(xml, tail)?;

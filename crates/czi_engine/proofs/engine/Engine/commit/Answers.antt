@@ -4,6 +4,8 @@ use Rattle.czi_opening.specs.Answers.{IsJournal}
 use Rattle.czi_rig.specs.declared.file.File.TheVariants.{Journal}
 use Rattle.czi_rig.specs.Disk.{Everywhere}
 use Rattle.czi_rig.specs.State.{known}
+use Rattle.czi_engine.specs.Prepared.{edits_after}
+use Rattle.czi_engine.specs.Standing.{TakeOneBack}
 use Rattle.czi_engine.proofs.Same.{changed_carried, edits_carried, extents_carried, map_carried, memory_carried, number_carried, plan_carried}
 use Rattle.czi_engine.proofs.OnRig.{edited_err, edited_ok}
 use Rattle.czi_engine.proofs.engine.Engine.commit.Goals as goal
@@ -18,7 +20,10 @@ pub take_over-requires-clause-own_map : goal.take_over-requires-clause-own_map
 take_over-requires-clause-own_map g c = map_carried c.args.self.now c.commit_prepared.new.self c.commit_prepared.ensures.kept c.requires.stands.own_map
 
 pub take_over-requires-clause-few : goal.take_over-requires-clause-few
-take_over-requires-clause-few g c = subst (λ v. length v.items ≤ 32) (sym c.commit_prepared.ensures.kept.edits) c.requires.stands.few
+take_over-requires-clause-few g c = subst (λ is. length is ≤ 32) (sym c.commit_prepared.ensures.kept.edits) c.requires.stands.few.few
+
+pub take_over-requires-clause-ones : goal.take_over-requires-clause-ones
+take_over-requires-clause-ones g c = (c.requires.prepared.1.few.ones.0, subst TakeOneBack (sym c.commit_prepared.ensures.kept.edits) c.requires.stands.few.ones)
 
 pub returns-in-Ok : goal.returns-in-Ok
 returns-in-Ok g c = λ go p.
@@ -28,11 +33,11 @@ returns-in-Ok g c = λ go p.
     let k = c.commit_prepared.ensures.kept in
     let a = c.take_over.ensures in
     let e = c.commit_prepared.ensures in
-    edited_ok g.R.Rig c.args.rig.now c.commit_prepared.new.rig x go c.args.held p c.requires.stands e.moments g.met.R.Rig.only_now e.said e.goes_on y (changed_carried x z k y a.index) (extents_carried x z k y a.extents) a.own_map (edits_carried x z k y c.args.held a.edits)
+    edited_ok g.R.Rig c.args.rig.now c.commit_prepared.new.rig x go (edits_after c.args.inverse x.state) p c.requires.stands e.moments g.met.R.Rig.only_now e.said e.goes_on y (changed_carried x z k y a.index) (extents_carried x z k y a.extents) a.own_map (edits_carried x z k y c.args.inverse a.edits)
     (number_carried x z k y a.number) (a.down ∙ c.in-Ok.ensures.up) c.in-Ok.ensures.image c.in-Ok.ensures.committed
     (subst (λ j. ForSome (known (g.R.Rig.state c.commit_prepared.new.rig) Journal) (Everywhere (IsJournal j))) (sym a.journal) c.in-Ok.ensures.journal) (ap (λ j. j.armed) a.journal ∙ c.in-Ok.ensures.armed) c.in-Ok.ensures.cause
 
 pub returns-in-Err : goal.returns-in-Err
 returns-in-Err g c = λ go p.
     let e = c.commit_prepared.ensures in
-    edited_err g.R.Rig c.args.rig.now c.commit_prepared.new.rig c.args.self.now go c.args.held p c.requires.stands e.moments g.met.R.Rig.only_now e.said e.goes_on c.commit_prepared.new.self.state c.in-Err.error c.in-Err.ensures.device c.in-Err.ensures.down c.in-Err.ensures.cause
+    edited_err g.R.Rig c.args.rig.now c.commit_prepared.new.rig c.args.self.now go (edits_after c.args.inverse c.args.self.now.state) p c.requires.stands e.moments g.met.R.Rig.only_now e.said e.goes_on c.commit_prepared.new.self.state c.in-Err.error c.in-Err.ensures.device c.in-Err.ensures.down c.in-Err.ensures.cause

@@ -1,19 +1,24 @@
-use Rattle.std.proofs.Common.{◌≡◌, ◌≤◌, length, refl, sym, subst}
-use Rattle.std.specs.Prelude.{option_to_list}
+use Rattle.std.proofs.Common.{ℕ, List, ◌∷◌, take, refl, sym, subst}
+use Rattle.czi_format.specs.Live.{Live}
 use Rattle.czi_machine.specs.Edit.{DocumentEffect}
 use Rattle.czi_machine.specs.Machine.{after_edit}
+use Rattle.czi_machine.specs.State.{State}
 use Rattle.czi_plan.specs.Does.{Does}
 use Rattle.czi_plan.specs.Plan.{IsPlan}
+use Rattle.czi_undo.specs.declared.inverse.Inverse.{Inverse}
+use Rattle.czi_engine.specs.Prepared.{GoesBy, edits_after}
+use Rattle.czi_engine.specs.Standing.{FewKept, HasState, Origin}
 use Rattle.czi_engine.specs.Tasks.{effect_of}
 use Rattle.czi_engine.specs.declared.engine.Engine.{Engine}
 use Rattle.czi_engine.specs.declared.engine.Scratch.{Scratch}
 use Rattle.czi_engine.proofs.Fitting.{its_map}
+use Rattle.czi_engine.proofs.Inverting.{few_after}
 use Rattle.czi_engine.proofs.Going.{before_here, prepared_after}
-use Rattle.czi_engine.proofs.Planned.{no_plan, plan_means, planned_whole}
+use Rattle.czi_engine.proofs.Planned.{no_plan, plan_means}
 use Rattle.czi_engine.proofs.engine.Engine.prepare.Goals as goal
 
 pub plan-requires-clause-of_index : goal.plan-requires-clause-of_index
-plan-requires-clause-of_index c = its_map c.args.self.now.state c.requires.own_map c.requires.whole
+plan-requires-clause-of_index c = its_map c.args.self.now.state c.requires.own_map c.requires.few.whole
 
 pub returns-in_err-plan : goal.returns-in_err-plan
 returns-in_err-plan c =
@@ -30,10 +35,12 @@ returns c =
     let z : Engine = record { state = x.state; scratch = y.scratch } in
     let plan = subst (λ (k : Scratch). IsPlan x.state.index x.state.map k.region k.plan) (sym m.scratch) e.plan in
     let does = subst (λ (k : Scratch). Does x.state.index x.state.map k.region k.plan effect) (sym m.scratch) e.does in
-    let held : option_to_list c.held_by.result ≡ y.scratch.plan.held.items = c.held_by.ensures (subst (λ (k : Scratch). length k.plan.held.items ≤ 1) (sym m.scratch) e.held) in
+    let undoes = c.in_ok-inverse.ensures {u = tt} in
+    let i : Inverse = c.in_ok-inverse.inverse in
     λ edit means. record {
       same = m.same;
-      ready = prepared_after (λ s. after_edit s edit) z y c.held_by.result m.same refl m.memory (planned_whole z c.held_by.result plan held) plan
-          (plan_means z edit effect c.held_by.result c.requires.own_map held means plan does);
+      ready = prepared_after (λ s. after_edit s edit) z y (edits_after i y.state) m.same refl m.memory (subst (λ is. FewKept (i ∷ take 31 is)) (sym m.same.edits) (few_after x.state c.args.task i undoes c.requires.few)) plan
+          (subst (λ is. (o : Origin) (bytes : List ℕ) (live : Live) (s : State) → HasState o bytes live s x.state → GoesBy (λ s. after_edit s edit) bytes live s z (i ∷ take 31 is)) (sym m.same.edits)
+          (plan_means z edit c.args.task i c.requires.own_map undoes means plan does));
       refusal = tt;
     }
