@@ -1,5 +1,6 @@
 pub mod Editing
 pub mod Performing
+pub mod Going
 pub mod Opening
 pub mod Sealing
 pub mod Beginning

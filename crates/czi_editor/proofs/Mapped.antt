@@ -11,7 +11,7 @@ use Rattle.czi_num.specs.declared.span.Span.{Span as CodeSpan}
 use Rattle.czi_report.specs.States.{map_of}
 use Rattle.czi_report.specs.Text.{map_text}
 use Rattle.czi_space.specs.State.{space_of}
-use Rattle.czi_engine.specs.Standing.{HasItsMap, HasState, HoldBack, Origin, held_by}
+use Rattle.czi_engine.specs.Standing.{HasItsMap, HasState, HoldBack, Origin, held_by, spans_held}
 use Rattle.czi_engine.specs.declared.engine.EngineState.{EngineState}
 use Rattle.czi_engine.proofs.Fitting.{map_length, same_space}
 
@@ -34,5 +34,5 @@ held_sorted newer (f ∷ formers) (e ∷ edits) back =
 
 pub maps_state : (o : Origin) (bytes : List ℕ) (live : Live) (s : State) (x : EngineState) → HasState o bytes live s x → HasItsMap x → map_text x.map.length (space_of x.map).runs x.map.held ≡ map_of s
 maps_state o bytes live s x has own =
-    let held = own.held ∙ held_sorted (items_of s.layout) s.formers x.edits.items has.edits in
+    let held = own.held ∙ held_sorted (items_of s.layout) s.formers (spans_held x) has.edits in
     λ k. map_text (map_length o bytes live s x has own k) (same_space o bytes live s x has own k).runs (held k)

@@ -1,5 +1,5 @@
 -- The laws of an editor hold of an engine.
-use Rattle.std.specs.Prelude.{◌≡◌, ℕ, ◌<◌, List, length, Option, Some, None, is_some, option_map, refl, Result, Ok, Err}
+use Rattle.std.specs.Prelude.{◌≡◌, ℕ, ◌<◌, ◌==◌, List, ◌++◌, Bool, true, false, if◌then◌else◌, codes, length, Option, Some, None, is_some, option_map, refl, Result, Ok, Err}
 use Rattle.std.proofs.Common.{sym, ◌∙◌, ap, arith, subst}
 use Rattle.std.proofs.Math.Nat.{zero-lt-suc}
 use Rattle.std.proofs.lemmas.Bool.{false≢true}
@@ -12,14 +12,19 @@ use Rattle.czi_rig.proofs.Files.{left_settled}
 use Rattle.czi_rig.proofs.Known.{known_file, known_said}
 use Rattle.czi_format.specs.Live.{Live}
 use Rattle.czi_journal.specs.Journals.{slot_of}
-use Rattle.czi_machine.specs.Edit.{Refusal, too_long, no_key, duplicate, too_many, nothing, full}
+use Rattle.czi_format.specs.Document.{Subblock}
+use Rattle.czi_format.specs.Painting.{Query}
+use Rattle.czi_format.specs.PaintRefusals.{PaintRefusal, too_long, compressed, kind, mixed, short_data, region_refusal}
+use Rattle.czi_report.specs.Pnm.{pnm_head}
+use Rattle.czi_editor.specs.Regions.{region_said}
+use Rattle.czi_machine.specs.Edit.{Refusal, too_long as too_long_edit, no_key, duplicate, too_many, nothing, full}
 use Rattle.czi_machine.specs.Machine.{after_edit}
 use Rattle.czi_machine.specs.State.{State as MachineState}
 use Rattle.czi_report.specs.Refusals.{cause_text}
 use Rattle.czi_report.specs.Replies.{no_line, ok_line}
 use Rattle.czi_report.specs.States.{list_of, info_of}
 use Rattle.czi_report.specs.Text.{check_text, items_text, map_text, text_line}
-use Rattle.czi_script.specs.Script.{Command, Add, Replace, Remove, Attach, Reattach, Detach, SetMeta, Listing, Info, Map, Check, Past}
+use Rattle.czi_script.specs.Script.{Command, Add, Replace, Remove, Attach, Reattach, Detach, SetMeta, Region, Listing, Info, Map, Check, Past}
 use Rattle.czi_opening.proofs.Verdict.{one_cause}
 use Rattle.czi_engine.specs.declared.engine.Engine.{Engine}
 use Rattle.czi_engine.specs.Editing.{ShowsAlone}
@@ -68,7 +73,6 @@ stays_ready_of x old new ready files goes =
         armed = λ disk is. on.armed disk (sym files.journal ∙ is);
         idle = λ off disk is. on.idle off disk (sym files.journal ∙ is);
         own_map = on.own_map;
-        whole = on.whole;
         few = on.few;
       };
       up = ready.up;
@@ -76,7 +80,7 @@ stays_ready_of x old new ready files goes =
 
 no_some : (r : Refusal) → 0 < length (no_line r)
 unfolding no_line text_line
-no_some (too_long n limit) = zero-lt-suc _
+no_some (too_long_edit n limit) = zero-lt-suc _
 no_some no_key = zero-lt-suc _
 no_some (duplicate place) = zero-lt-suc _
 no_some (too_many count) = zero-lt-suc _
@@ -87,6 +91,19 @@ edit_some : (r : Result MachineState Refusal) → 0 < length (edit_reply r)
 unfolding ok_line text_line
 edit_some (Ok s) = zero-lt-suc _
 edit_some (Err refusal) = no_some refusal
+
+kind_some : (b : Bool) (head rows : List ℕ) → 0 < length (((if b then codes "P5" else codes "P6") ++ head) ++ rows)
+kind_some true head rows = zero-lt-suc _
+kind_some false head rows = zero-lt-suc _
+
+region_some : (refusal : Option PaintRefusal) (q : Query) (subblocks : List Subblock) → 0 < length (region_said refusal q subblocks)
+unfolding pnm_head text_line
+region_some None q subblocks = kind_some (q.pixel.samples == 1) _ _
+region_some (Some (too_long bytes limit)) q subblocks = zero-lt-suc _
+region_some (Some (compressed place)) q subblocks = zero-lt-suc _
+region_some (Some (kind place)) q subblocks = zero-lt-suc _
+region_some (Some (mixed place)) q subblocks = zero-lt-suc _
+region_some (Some (short_data place)) q subblocks = zero-lt-suc _
 
 -- what tells something of the state is never empty
 TellsSome : Asked → Type 0
@@ -102,11 +119,12 @@ tells_some (Attach info bytes) = tt
 tells_some (Reattach info bytes) = tt
 tells_some (Detach name) = tt
 tells_some (SetMeta xml tail) = tt
+tells_some (Region q) = λ s. region_some (region_refusal q s.document.subblocks) q s.document.subblocks
 tells_some Listing = λ s. zero-lt-suc _
 tells_some Info = λ s. zero-lt-suc _
 tells_some Map = λ s. zero-lt-suc _
 tells_some Check = λ s. zero-lt-suc _
-tells_some (Past len limit) = λ s. no_some (too_long len limit)
+tells_some (Past len limit) = λ s. no_some (too_long_edit len limit)
 
 says_some : (s : MachineState) (a : Asked) → TellsSome a → 0 < length (reply_asked s a)
 unfolding TellsSome

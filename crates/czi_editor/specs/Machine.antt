@@ -16,7 +16,7 @@ use Rattle.czi_engine.specs.Editing.{Alike, OpensIn, ShowsAlone}
 use Rattle.czi_engine.specs.Standing.{HasState, IsFresh, IsItself, Origin, StandsOnRig, origin_of}
 use Rattle.czi_engine.specs.declared.engine.Engine.{Engine}
 use Rattle.czi_report.specs.Refusals.{cause_text}
-use Rattle.czi_editor.specs.Replies.{after, origin_then, reply, still}
+use Rattle.czi_editor.specs.Replies.{after, looks, origin_then, reply, still}
 
 -- a state of a run, the bytes and the journal at its start, and the items that have been there since
 pub record Begun : Type 0 where
@@ -59,8 +59,8 @@ pub record HoldsAt (b : Begun) (journal : List ℕ) : Type 0 where
 
 -- The states, which pairs of files a run begins at and opens to, which images show a state's document alone, which image a pair
 -- stands for, which two pairs are alike in their items, which pairs are refused and with what line, which stand for what an earlier
--- pair stood for, which journals aren't sealed and which are void, what a command makes of a state, its reply, and which commands
--- change nothing.
+-- pair stood for, which journals aren't sealed and which are void, what a command makes of a state, its reply, which commands
+-- change nothing, and which look into the image.
 abbrev pub the_machine : Model
 the_machine = record {
   Document = Begun;
@@ -76,6 +76,7 @@ the_machine = record {
   after = λ b c. record { start = origin_then b.start b.state c; journal = b.journal; state = after b.state c };
   reply = λ b c. reply b.state c;
   still = λ b c. still b.state c;
+  looks = λ b c. looks b.state c;
 }
 
 -- an engine stands on an image and a journal at a state

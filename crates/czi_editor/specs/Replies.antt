@@ -1,5 +1,5 @@
 -- What a command makes of the machine's state, and its reply.
-use Rattle.std.specs.Prelude.{◌≡◌, ℕ, List, Result, Ok, Err}
+use Rattle.std.specs.Prelude.{◌≡◌, ℕ, List, None, Result, Ok, Err}
 use Rattle.czi_engine.specs.Editing.{origin_after, state_after}
 use Rattle.czi_engine.specs.Standing.{Origin}
 use Rattle.czi_machine.specs.Edit.{Edit, Refusal, add, attach, detach, reattach, remove, replace, set_meta, too_long}
@@ -7,7 +7,10 @@ use Rattle.czi_machine.specs.Machine.{after_edit}
 use Rattle.czi_machine.specs.State.{State}
 use Rattle.czi_report.specs.Replies.{no_line, ok_line}
 use Rattle.czi_report.specs.States.{list_of, info_of, map_of, check_of}
-use Rattle.czi_script.specs.Script.{Command, Add, Replace, Remove, Attach, Reattach, Detach, SetMeta, Listing, Info, Map, Check, Past}
+use Rattle.czi_format.specs.Painting.{Query}
+use Rattle.czi_format.specs.PaintRefusals.{region_refusal}
+use Rattle.czi_editor.specs.Regions.{region_reply}
+use Rattle.czi_script.specs.Script.{Command, Add, Replace, Remove, Attach, Reattach, Detach, SetMeta, Region, Listing, Info, Map, Check, Past}
 
 -- What a command asks of the machine: an edit, or to be told something of the state.
 pub data Asked : Type 0 where
@@ -22,6 +25,7 @@ asked (Attach info bytes) = edits (attach (record { info = info; bytes = bytes }
 asked (Reattach info bytes) = edits (reattach (record { info = info; bytes = bytes }))
 asked (Detach name) = edits (detach name)
 asked (SetMeta xml tail) = edits (set_meta (record { xml = xml; tail = tail }))
+asked (Region q) = tells (λ s. region_reply q s.document.subblocks)
 asked Listing = tells (λ s. list_of s.document s.layout)
 asked Info = tells (λ s. info_of s.document s.layout)
 asked Map = tells map_of
@@ -66,3 +70,7 @@ reply s c = reply_asked s (asked c)
 -- a query, or an edit that the machine refuses
 abbrev pub still : State → Command → Type 0
 still s c = still_asked s (asked c)
+
+-- a command that looks into the image for its reply: a region that is painted
+abbrev pub looks : State → Command → Type 0
+looks s c = (q : Query) × (c ≡ Region q) × (region_refusal q s.document.subblocks ≡ None)

@@ -1,6 +1,6 @@
 //! The engine as an editor of a session.
 
-ghost use Rattle.std.specs.Prelude.{◌≡◌, ◌++◌, IfErr, OnOk};
+ghost use Rattle.std.specs.Prelude.{◌≡◌, ◌++◌, IfErr, IfSome, OnOk};
 ghost use Rattle.czi_doc.specs.View.{att_of, bytes_of, dims_of, info_of};
 ghost use Rattle.czi_format.specs.Live.{Live};
 ghost use Rattle.czi_format.specs.Layout.{Layout};
@@ -11,24 +11,36 @@ ghost use Rattle.czi_report.specs.States.{check_of};
 ghost use Rattle.czi_report.specs.Text.{info_text, list_text, map_text};
 ghost use Rattle.czi_script.specs.Script.{Add, Attach, Detach, Reattach, Remove, Replace, SetMeta};
 ghost use Rattle.czi_space.specs.State.{space_of};
-ghost use Rattle.czi_editor.specs.Laws.{begins_unsealed_of, each_says, refused_once_of, rests_now_of, stays_ready_of};
+ghost use Rattle.czi_doc.specs.QueryView.{query_of};
+ghost use Rattle.czi_tiles.specs.Grid.{IsGrid};
+ghost use Rattle.czi_editor.specs.Answering.{MayGoOn, Owes, goes_on_of, piece_of, rows_left};
+ghost use Rattle.czi_editor.specs.Painted.{IsBegun};
+ghost use Rattle.czi_editor.specs.Laws.{begins_unsealed_of, each_says, refused_once_of, rests_now_of};
 ghost use Rattle.czi_editor.specs.Machine.{AtState, IsReady, the_machine};
 ghost use Rattle.czi_editor.specs.Performs.{Performs};
 
+use crate::painting::{Painting, begun, grid_of};
 use crate::refusal::stop_of;
 use crate::reply::{push_answer, take_room};
-use czi_doc::{AttInfo, Bytes, Dims, EntryInfo};
+use czi_doc::{AttInfo, Bytes, Dims, EntryInfo, Query};
 use czi_engine::Engine;
 use czi_report::{check, info, list, map, push_no_long};
 use czi_rig::{Failed, Rig};
 use czi_script::Command;
 use czi_session::{Editor, EditorStop, OpenStop};
+use czi_tiles::TileGrid;
 use std::alloc::{AllocError, Global};
 
 /// An engine, whose commands and replies are those of a script.
 #[derive(Drop)]
 pub struct ImageEditor {
     engine: Engine,
+    /// What is replied first: a whole reply, or the head of a region.
+    reply: Vec<u8>,
+    /// The region that is being painted.
+    painting: Option<Painting>,
+    /// Where the tiles stand, from one region to the next, until an edit.
+    grid: Option<TileGrid>,
 }
 
 /// Adds a subblock, and appends the reply.
@@ -212,14 +224,38 @@ fn push_check(engine: &Engine, reply: &mut Vec<u8>) -> Result<(), EditorStop>
     }
 }
 
+impl ImageEditor {
+    /// Begins to paint a region, or says why it isn't painted.
+    fn paint(&mut self, query: &Query) -> Result<(), EditorStop>
+        requires grid { IfSome self.old.grid (IsGrid self.old.engine.state.index.tiles.items) }
+        ensures engine { self.new.engine ≡ self.old.engine }
+        ensures grid { OnOk result (IfSome self.new.grid (IsGrid self.old.engine.state.index.tiles.items)) }
+        ensures begun { OnOk result (IsBegun (query_of query.now) self.old.engine.state.index.tiles.items self.old.reply.items self.new.reply.items self.new.painting) }
+        ensures stopped { IfErr result (λ stop. stop ≡ EditorStop.Memory) }
+    {
+        let alloc = *self.reply.allocator();
+        let tiles = &self.engine.index().tiles;
+        let grid = grid_of(alloc, tiles, self.grid.take())?;
+        self.painting = begun(alloc, tiles, &grid, query, &mut self.reply)?;
+        self.grid = Some(grid);
+        Ok(())
+    }
+}
+
 impl Editor for ImageEditor {
     ghost model = { the_machine };
 
     ghost stands = { λ editor image journal b. AtState editor.engine image journal b };
 
-    ghost ready = { λ editor s. IsReady editor.engine s };
+    ghost ready = { λ editor s. MayGoOn editor s };
 
-    ghost stays_ready = { λ editor old new ready files goes. stays_ready_of editor.engine old new ready files goes };
+    ghost says = { λ editor. piece_of editor.painting editor.reply.items };
+
+    ghost owes = { λ editor b rest. Owes editor.painting editor.engine.state.index.tiles.items b.state.document.subblocks rest };
+
+    ghost pieces_left = { λ editor. rows_left editor.painting };
+
+    ghost stays_ready = { λ editor old new ready files goes. goes_on_of editor old new ready files goes };
 
     ghost rests_now = { λ editor image journal b at. rests_now_of editor.engine image journal b at };
 
@@ -231,42 +267,94 @@ impl Editor for ImageEditor {
 
     fn open<R: Rig>(alloc: Global, rig: &mut R) -> Result<ImageEditor, OpenStop> {
         match Engine::open(alloc, rig) {
-            Ok(engine) => Ok(ImageEditor { engine }),
+            Ok(engine) => Ok(ImageEditor {
+                engine,
+                reply: Vec::new(alloc),
+                painting: None,
+                grid: None,
+            }),
             Err(error) => Err(stop_of(alloc, &error)),
         }
     }
 
-    fn perform<R: Rig>(
-        &mut self,
-        rig: &mut R,
-        command: &Command,
-        reply: &mut Vec<u8>,
-    ) -> Result<(), EditorStop> {
+    fn perform<R: Rig>(&mut self, rig: &mut R, command: &Command) -> Result<(), EditorStop> {
+        self.painting = None;
+        self.reply.clear();
         match command {
             Command::Add {
                 info,
                 meta,
                 pixels,
                 tail,
-            } => add(&mut self.engine, rig, info, meta, pixels, tail, reply),
+            } => {
+                self.grid = None;
+                add(
+                    &mut self.engine,
+                    rig,
+                    info,
+                    meta,
+                    pixels,
+                    tail,
+                    &mut self.reply,
+                )
+            }
             Command::Replace {
                 info,
                 meta,
                 pixels,
                 tail,
-            } => replace(&mut self.engine, rig, info, meta, pixels, tail, reply),
-            Command::Remove { dims } => remove(&mut self.engine, rig, dims, reply),
-            Command::Attach { info, bytes } => attach(&mut self.engine, rig, info, bytes, reply),
-            Command::Reattach { info, bytes } => {
-                reattach(&mut self.engine, rig, info, bytes, reply)
+            } => {
+                self.grid = None;
+                replace(
+                    &mut self.engine,
+                    rig,
+                    info,
+                    meta,
+                    pixels,
+                    tail,
+                    &mut self.reply,
+                )
             }
-            Command::Detach { name } => detach(&mut self.engine, rig, name, reply),
-            Command::SetMeta { xml, tail } => set_meta(&mut self.engine, rig, xml, tail, reply),
-            Command::List => push_list(&self.engine, reply),
-            Command::Info => push_info(&self.engine, reply),
-            Command::Map => push_map(&self.engine, reply),
-            Command::Check => push_check(&self.engine, reply),
-            Command::Long { len, limit } => push_long(*len, *limit, reply),
+            Command::Remove { dims } => {
+                self.grid = None;
+                remove(&mut self.engine, rig, dims, &mut self.reply)
+            }
+            Command::Attach { info, bytes } => {
+                self.grid = None;
+                attach(&mut self.engine, rig, info, bytes, &mut self.reply)
+            }
+            Command::Reattach { info, bytes } => {
+                self.grid = None;
+                reattach(&mut self.engine, rig, info, bytes, &mut self.reply)
+            }
+            Command::Detach { name } => {
+                self.grid = None;
+                detach(&mut self.engine, rig, name, &mut self.reply)
+            }
+            Command::SetMeta { xml, tail } => {
+                self.grid = None;
+                set_meta(&mut self.engine, rig, xml, tail, &mut self.reply)
+            }
+            Command::Region { query } => self.paint(query),
+            Command::List => push_list(&self.engine, &mut self.reply),
+            Command::Info => push_info(&self.engine, &mut self.reply),
+            Command::Map => push_map(&self.engine, &mut self.reply),
+            Command::Check => push_check(&self.engine, &mut self.reply),
+            Command::Long { len, limit } => push_long(*len, *limit, &mut self.reply),
+        }
+    }
+
+    fn piece(&self) -> &[u8] {
+        match &self.painting {
+            Some(painting) if painting.begun => &painting.row,
+            _ => &self.reply,
+        }
+    }
+
+    fn next_piece<R: Rig>(&mut self, rig: &mut R) -> Result<bool, Failed> {
+        match &mut self.painting {
+            Some(painting) => painting.next_row(rig),
+            None => Ok(false),
         }
     }
 

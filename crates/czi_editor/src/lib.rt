@@ -3,6 +3,7 @@
 
 mod editor;
 mod laws;
+mod painting;
 mod refusal;
 mod reply;
 #[cfg(test)]

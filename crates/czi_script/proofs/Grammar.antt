@@ -16,29 +16,20 @@ use Rattle.czi_doc.proofs.Numbers.{natural_or, number_or, same_natural}
 use Rattle.czi_script.specs.declared.kind.Kind.{Kind}
 use Rattle.czi_script.specs.declared.kind.Kind.TheVariants.{Cut, Long, Word, Later, Field, Value, Tail}
 use Rattle.czi_script.specs.BytesText.{IsBytesText, IsPaddedText, padded}
-use Rattle.czi_script.specs.Script.{Verb, Adds, Replaces, Removes, Detaches, Lists, Tells, Maps, Checks, Tile, Attachment, Metadata, Head, Alone, Brings, word, lines, later_words, is_among, fields_for, values_at, behind_word, values_of, IsSigned, IsSize, TileValues, AttachmentValues, attachment_word, tile_word, head_word, AreValues, IsHead, IsWrong, is_built, has_fields}
+use Rattle.czi_script.specs.Script.{Verb, Adds, Replaces, Removes, Detaches, Paints, Lists, Tells, Maps, Checks, Tile, Attachment, Metadata, Head, Alone, Brings, word, lines, later_words, is_among, fields_for, values_at, behind_word, values_of, IsSigned, IsSize, TileValues, AttachmentValues, attachment_word, tile_word, head_word, AreValues, IsHead, IsWrong, is_built, has_fields}
 use Rattle.czi_script.proofs.Tests.{less_or, no_truth}
+use Rattle.czi_script.proofs.RegionLines.{SomeRegion, nth, number_is, region_at, region_is, region_or, the_number}
 use Rattle.czi_script.proofs.Words.{each_line, built_not_later}
 use Rattle.czi_script.proofs.Spelling.{the_bytes, bytes_is, field_is, bytes_or, field_or}
 
 -- the values, by their texts
 
-abbrev the_number : Result (Read ℤ) ℕ → ℤ
-the_number (Ok r) = r.it
-the_number (Err left) = pos 0
-
 abbrev the_dims : Result (List Dim) ℕ → List Dim
 the_dims (Ok dims) = dims
 the_dims (Err left) = []
 
-number_is : (text : List ℕ) (n : ℤ) → IsSigned text n → the_number (number_at text) ≡ n
-number_is text n is = ap (λ l. the_number (number_at l)) (sym (append-nil text)) ∙ ap the_number (number_again text [] n is.0 is.1 refl)
-
 dims_is : (text : List ℕ) (dims : List Dim) → IsDimText text dims → the_dims (items_at 40 text) ≡ dims
 dims_is text dims is = ap the_dims (only 40 text dims is.items is.few is.fits)
-
-abbrev nth : ℕ → List (List ℕ) → List ℕ
-nth n values = get_or values n []
 
 abbrev tile_at : Verb → List (List ℕ) → Head
 tile_at verb values = Brings (Tile verb (record {
@@ -87,6 +78,7 @@ head_at w values =
     else if bytes_eq w (codes "reattach") then attachment_at Replaces values
     else if bytes_eq w (codes "detach") then Alone (Detaches (the_bytes (nth 0 values)))
     else if bytes_eq w (codes "meta") then Brings (Metadata (digits_value 10 (nth 0 values)) (digits_value 10 (nth 1 values)))
+    else if bytes_eq w (codes "region") then region_at values
     else if bytes_eq w (codes "list") then Alone Lists
     else if bytes_eq w (codes "info") then Alone Tells
     else if bytes_eq w (codes "map") then Alone Maps
@@ -106,6 +98,7 @@ head_is (Brings (Attachment Adds info len)) values are = attachment_is Adds info
 head_is (Brings (Attachment Replaces info len)) values are = attachment_is Replaces info len values are
 head_is (Alone (Detaches name)) values are = ap (λ vs. head_at (codes "detach") vs) are.1 ∙ ap (λ (n : List ℕ). Alone (Detaches n)) (bytes_is 80 are.0 name are.2)
 head_is (Brings (Metadata xml tail)) values are = ap (λ vs. head_at (codes "meta") vs) are.2 ∙ metadata_is are.0 are.1 xml tail are.3 are.4
+head_is (Alone (Paints q)) values are = region_is q values are
 head_is (Alone Lists) values are = refl
 head_is (Alone Tells) values are = refl
 head_is (Alone Maps) values are = refl
@@ -195,6 +188,9 @@ SomeSizes values = (xml : ℕ) × (tail : ℕ) × (a : List ℕ) × (b : List �
 
 pub only_meta : (h : Head) (values : List (List ℕ)) → head_word h ≡ codes "meta" → AreValues h values → SomeSizes values
 only_meta h values named are = let r = at_word (codes "meta") h values named are in (_, _, r.0, r.1, r.2, r.3, r.4)
+
+pub only_region : (h : Head) (values : List (List ℕ)) → head_word h ≡ codes "region" → AreValues h values → SomeRegion values
+only_region h values named are = (_, at_word (codes "region") h values named are)
 
 some_values : (v : List ℕ) (values : List (List ℕ)) → v ∷ values ≡ [] → ⊥
 some_values v values e = cc
@@ -408,6 +404,12 @@ meta_says = λ values. elim (sizes_or values) [
   | inr none ↦ inr (λ h named are. none (only_meta h values named are))
 ]
 
+region_says : SaysSo (codes "region")
+region_says = λ values. elim (region_or values) [
+  | inl t ↦ inl (Alone (Paints t.0), refl, t.1)
+  | inr none ↦ inr (λ h named are. none (only_region h values named are))
+]
+
 -- a line without fields
 bare_says : (w : List ℕ) (h : Head) → head_word h ≡ w → AreValues h [] → ((v : List ℕ) (values : List (List ℕ)) → AreValues (head_at w (v ∷ values)) (v ∷ values) → ⊥) → SaysSo w
 bare_says w h named are other [] = inl (h, named, are)
@@ -431,7 +433,7 @@ says_so w built = each_line SaysSo lines (
             detach_says,
             (
               meta_says,
-              (bare_says _ (Alone Lists) refl refl some_values, (bare_says _ (Alone Tells) refl refl some_values, (bare_says _ (Alone Maps) refl refl some_values, (bare_says _ (Alone Checks) refl refl some_values, tt)))),
+              (region_says, (bare_says _ (Alone Lists) refl refl some_values, (bare_says _ (Alone Tells) refl refl some_values, (bare_says _ (Alone Maps) refl refl some_values, (bare_says _ (Alone Checks) refl refl some_values, tt))))),
             ),
           ),
         ),

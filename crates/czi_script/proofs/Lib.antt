@@ -9,6 +9,7 @@ mod Grammar
 mod Values
 pub mod Faults
 pub mod Reading
+pub mod RegionLines
 mod Found
 mod Passing
 mod Payloads

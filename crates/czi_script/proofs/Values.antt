@@ -1,5 +1,5 @@
 -- The values of a line, as the code has them.
-use Rattle.std.proofs.Common.{◌≡◌, ℕ, ◌+◌, ◌≤◌, List, [], ◌∷◌, ◌++◌, take, drop, length, true, Option, Some, None, ap, sym, ◌∙◌, subst, arith}
+use Rattle.std.proofs.Common.{◌≡◌, ℕ, ◌+◌, ◌-◌, ◌≤◌, List, [], ◌∷◌, ◌++◌, take, drop, length, true, Option, Some, None, ap, sym, ◌∙◌, subst, arith}
 use Rattle.std.specs.Prelude.{◌==◌, ◌^◌, codes, get_or}
 use Rattle.std.proofs.Math.Seq.{take-append_seam, drop-append_seam, drop-append-add}
 use Rattle.czi_format.specs.Partial.{given}
@@ -8,14 +8,17 @@ use Rattle.czi_doc.specs.DimText.{IsDimText, IsNatural}
 use Rattle.czi_doc.specs.declared.fault.TextFault.{TextFault}
 use Rattle.czi_doc.specs.declared.fault.TextFault.TheVariants.{Bad, Memory}
 use Rattle.czi_script.specs.declared.fields.Texts.{Texts}
+use Rattle.czi_script.specs.declared.regions.RegionTexts.{RegionTexts}
+use Rattle.czi_format.specs.Key.{Axis}
+use Rattle.czi_format.specs.Painting.{Query}
 use Rattle.czi_script.specs.declared.fields.Refusal.{Refusal}
 use Rattle.czi_script.specs.declared.fields.Refusal.TheVariants.{Kind as OfKind, Memory as NoMemory}
 use Rattle.czi_script.specs.declared.attachments.Names.{Names}
 use Rattle.czi_script.specs.declared.kind.Kind.TheVariants.{Value}
 use Rattle.czi_script.specs.BytesText.{IsBytesText, IsPaddedText}
-use Rattle.czi_script.specs.Script.{Verb, Split, with_value, TileValues, IsSigned, IsSize, attachment_fields, attachment_word, metadata_fields, tile_word, tile_fields, needed, value_at, values_at, from_field}
-use Rattle.czi_script.specs.Pieces.{NoNumbers, RefusesAttachment, RefusesTile, RefusesFields, names_in, values_in}
-use Rattle.czi_script.proofs.Grammar.{only_tile, only_remove, only_attachment, only_detach, only_meta}
+use Rattle.czi_script.specs.Script.{Verb, Split, with_value, TileValues, IsCount, IsPixel, IsPlane, IsScene, IsSigned, IsSize, RegionValues, region_fields, attachment_fields, attachment_word, metadata_fields, tile_word, tile_fields, needed, value_at, values_at, from_field}
+use Rattle.czi_script.specs.Pieces.{NoNumbers, NoRegionNumbers, RefusesRegion, region_values_in, RefusesAttachment, RefusesTile, RefusesFields, names_in, values_in}
+use Rattle.czi_script.proofs.Grammar.{only_region, only_tile, only_remove, only_attachment, only_detach, only_meta}
 
 abbrev nth : ℕ → List (List ℕ) → List ℕ
 nth n values = get_or values n []
@@ -82,6 +85,29 @@ sizes_refused text a b given wrong = (
   sym given,
   λ h named are. let x = only_meta h (a ∷ b ∷ []) named are in wrong x.0 x.1 (subst (λ t. IsSize t x.0) (sym (ap (nth 0) x.4)) x.5) (subst (λ t. IsSize t x.1) (sym (ap (nth 1) x.4)) x.6),
 )
+
+-- the values of a region's line
+
+pub no_region_numbers : (t : RegionTexts) → NoRegionNumbers t → (q : Query) → RegionValues q (region_values_in t) → ⊥
+no_region_numbers t none q r = none q.pixel q.layer q.x q.y q.w q.h q.scene
+    (subst (λ x. IsPixel x q.pixel) (sym (ap (nth 0) r.texts)) r.is_pixel)
+    (subst (λ x. IsCount (2 ^ 16) x q.layer) (sym (ap (nth 1) r.texts)) r.is_layer)
+    (subst (λ x. IsSigned x q.x) (sym (ap (nth 2) r.texts)) r.is_x)
+    (subst (λ x. IsSigned x q.y) (sym (ap (nth 3) r.texts)) r.is_y)
+    (subst (λ x. IsCount (2 ^ 32 - 1) x q.w) (sym (ap (nth 4) r.texts)) r.is_w)
+    (subst (λ x. IsCount (2 ^ 32 - 1) x q.h) (sym (ap (nth 5) r.texts)) r.is_h)
+    (subst (λ x. IsScene x q.scene) (sym (ap (nth 6) r.texts)) r.is_scene)
+
+pub no_region_plane : (t : RegionTexts) → ((axes : List Axis) → IsPlane t.plane.now axes → ⊥) → (q : Query) → RegionValues q (region_values_in t) → ⊥
+no_region_plane t none q r = none q.plane (subst (λ x. IsPlane x q.plane) (sym (ap (nth 7) r.texts)) r.is_plane)
+
+pub region_refused : (t : RegionTexts) (text : List ℕ) (refusal : Refusal) → Some (region_values_in t) ≡ values_at region_fields text → RefusesRegion t refusal → RefusesFields (codes "region") region_fields text refusal
+region_refused t text (OfKind kind) given r = subst (λ k. RefusesFields (codes "region") region_fields text (OfKind k)) (sym r.0) (
+  region_values_in t,
+  sym given,
+  λ h named are. let x = only_region h (region_values_in t) named are in r.1 x.0 x.1,
+)
+region_refused t text NoMemory given r = tt
 
 -- the parts of a payload
 module _ (meta pixels tail : List ℕ) where

@@ -1,5 +1,5 @@
 -- Steps inside the reading of one command.
-use Rattle.std.specs.Prelude.{◌≡◌, ◌≢◌, ◌⊎◌, ℕ, ℤ, ◌+◌, ◌^◌, ◌<◌, ◌≤◌, List, [], ◌∷◌, ◌++◌, take, drop, length, Bool, true, false, Option, Some, None, option_map, map}
+use Rattle.std.specs.Prelude.{◌≡◌, ◌≢◌, ◌⊎◌, ℕ, ℤ, ◌+◌, ◌-◌, ◌^◌, ◌<◌, ◌≤◌, List, [], ◌∷◌, ◌++◌, take, drop, length, Bool, true, false, Option, Some, None, option_map, map}
 use Rattle.std.specs.Option.{ForSome}
 use Rattle.std.specs.Borrow.{Bor}
 use Rattle.czi_format.specs.Entry.{AttInfo, EntryInfo}
@@ -18,10 +18,12 @@ use Rattle.czi_script.specs.declared.fields.Refusal.{Refusal}
 use Rattle.czi_script.specs.declared.fields.Refusal.TheVariants.{Kind as OfKind, Memory as NoMemory}
 use Rattle.czi_script.specs.declared.attachments.Names.{Names}
 use Rattle.czi_script.specs.declared.fields.Texts.{Texts}
+use Rattle.czi_script.specs.declared.regions.RegionTexts.{RegionTexts}
+use Rattle.czi_format.specs.Painting.{PixelType, Query}
 use Rattle.czi_script.specs.declared.lines.Front.{Front}
 use Rattle.czi_script.specs.declared.lines.Front.TheVariants.{Line, Long as TooFar, Part}
 use Rattle.czi_script.specs.BytesText.{IsSpelled}
-use Rattle.czi_script.specs.Script.{HasNo, Head, Brings, Payload, Tile, Attachment, Metadata, Piece, IsHead, IsWrong, IsFault, TileValues, AttachmentValues, IsSigned, IsSize, FieldForm, Split, AreValues, head_word, values_at, pieces, payload_len, close, command_with}
+use Rattle.czi_script.specs.Script.{HasNo, Head, Brings, Payload, Tile, Attachment, Metadata, Piece, IsHead, IsWrong, IsFault, TileValues, AttachmentValues, IsCount, IsPixel, IsScene, IsSigned, IsSize, RegionValues, FieldForm, Split, AreValues, head_word, values_at, pieces, payload_len, close, command_with}
 use Rattle.czi_script.specs.Reader.{Reader, Uses, GoesOn, HoldsNoLine, limit}
 use Rattle.czi_script.specs.View.{command_of, head_of}
 
@@ -252,6 +254,21 @@ ReadsTile verb t tile = (tile.verb ≡ verb) × TileValues (info_of tile.info) t
 abbrev pub RefusesTile : Texts → Refusal → Type 0
 RefusesTile t (OfKind kind) = (kind ≡ Value) × ((info : EntryInfo) (meta pixels tail : ℕ) → TileValues info meta pixels tail (values_in t) → ⊥)
 RefusesTile t NoMemory = Unit {0}
+
+-- the values of a region's line
+abbrev pub region_values_in : RegionTexts → List (List ℕ)
+region_values_in t = t.pixel.now ∷ t.layer.now ∷ t.x.now ∷ t.y.now ∷ t.w.now ∷ t.h.now ∷ t.scene.now ∷ t.plane.now ∷ []
+
+abbrev pub AreRegionNumbers : RegionTexts → PixelType → ℕ → ℤ → ℤ → ℕ → ℕ → Option ℤ → Type 0
+AreRegionNumbers t pixel layer x y w h scene = IsPixel t.pixel.now pixel × IsCount (2 ^ 16) t.layer.now layer × IsSigned t.x.now x × IsSigned t.y.now y × IsCount (2 ^ 32 - 1) t.w.now w × IsCount (2 ^ 32 - 1) t.h.now h × IsScene t.scene.now scene
+
+abbrev pub NoRegionNumbers : RegionTexts → Type 0
+NoRegionNumbers t = (pixel : PixelType) (layer : ℕ) (x y : ℤ) (w h : ℕ) (scene : Option ℤ) → IsPixel t.pixel.now pixel → IsCount (2 ^ 16) t.layer.now layer → IsSigned t.x.now x → IsSigned t.y.now y → IsCount (2 ^ 32 - 1) t.w.now w
+    → IsCount (2 ^ 32 - 1) t.h.now h → IsScene t.scene.now scene → ⊥
+
+abbrev pub RefusesRegion : RegionTexts → Refusal → Type 0
+RefusesRegion t (OfKind kind) = (kind ≡ Value) × ((q : Query) → RegionValues q (region_values_in t) → ⊥)
+RefusesRegion t NoMemory = Unit {0}
 
 -- the values of an attachment's line
 abbrev pub names_in : Names → List (List ℕ)

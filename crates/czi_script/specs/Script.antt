@@ -1,14 +1,18 @@
 -- Edit scripts: a list of commands, each of which is one line that ends with a line feed. Where a line says so, the bytes of a
 -- payload follow, and one line feed more. A line is a word and fields ` name=value`, each after one space.
-use Rattle.std.specs.Prelude.{◌≡◌, ◌≢◌, ◌⊎◌, ℕ, ◌+◌, ◌^◌, ◌<◌, ◌≤◌, ℤ, List, [], ◌∷◌, ◌++◌, take, drop, length, replicate, Bool, not, ◌==◌, nat_lt, IsTrue, IsFalse, codes, bytes_eq, FitsSigned, Option, Some, None, is_some, option_map, if◌then◌else◌}
+use Rattle.std.specs.Prelude.{◌≡◌, ◌≢◌, ◌⊎◌, ℕ, ◌+◌, ◌-◌, find, ◌^◌, ◌<◌, ◌≤◌, ℤ, List, [], ◌∷◌, ◌++◌, take, drop, length, replicate, Bool, not, ◌==◌, nat_lt, IsTrue, IsFalse, codes, bytes_eq, FitsSigned, Option, Some, None, is_some, option_map, if◌then◌else◌}
 use Rattle.std.specs.Int.{w32}
 use Rattle.std.specs.List.{AllByRecursion, list_any, prefix_len}
+use Rattle.std.specs.Ordering.{int_eq}
 use Rattle.czi_format.specs.Partial.{◌>>=◌, given}
 use Rattle.uuid.specs.Text.{parsed}
 use Rattle.czi_format.specs.Bytes.{stored_order}
 use Rattle.czi_format.specs.Entry.{AttInfo, Dim, EntryInfo}
 use Rattle.czi_format.specs.declared.numbers.TheConstants.{DATA_LIMIT, TEXT_LIMIT}
 use Rattle.czi_doc.specs.DimText.{IsDimText, IsNatural, IsNumber}
+use Rattle.czi_doc.specs.PlaneText.{IsPlaneText}
+use Rattle.czi_format.specs.Key.{Axis}
+use Rattle.czi_format.specs.Painting.{PixelType, Query, pixel_types}
 use Rattle.czi_script.specs.BytesText.{IsBytesText, IsPaddedText}
 use Rattle.czi_script.specs.declared.kind.Kind.{Kind}
 use Rattle.czi_script.specs.declared.kind.Kind.TheVariants.{Cut, Long, Word, Later, Field, Value, Tail}
@@ -16,7 +20,7 @@ use Rattle.czi_script.specs.declared.kind.Kind.TheVariants.{Cut, Long, Word, Lat
 -- What a script asks for: to add a subblock with these metadata, pixel data and attachment, or to put it in the place of the
 -- one that its dimensions name; to remove the subblock that these dimensions name; to attach these bytes, or to put them in the
 -- place of the attachment with their name; to detach the one with this name; to set the metadata to this XML and attachment; to
--- list the subblocks, to tell of the image, to map its free space, or to count its segments. Nothing is asked for by a command
+-- paint this region; to list the subblocks, to tell of the image, to map its free space, or to count its segments. Nothing is asked for by a command
 -- with a payload of which a piece has so many bytes, which is past this limit.
 pub data Command : Type 0 where
   Add : EntryInfo → List ℕ → List ℕ → List ℕ → Command
@@ -26,6 +30,7 @@ pub data Command : Type 0 where
   Reattach : AttInfo → List ℕ → Command
   Detach : List ℕ → Command
   SetMeta : List ℕ → List ℕ → Command
+  Region : Query → Command
   Listing : Command
   Info : Command
   Map : Command
@@ -41,6 +46,7 @@ pub data Verb : Type 0 where
 pub data Plain : Type 0 where
   Removes : List Dim → Plain
   Detaches : List ℕ → Plain
+  Paints : Query → Plain
   Lists : Plain
   Tells : Plain
   Maps : Plain
@@ -91,6 +97,13 @@ needed mark = record { mark = mark; missing = None }
 abbrev pub zero_if_missing : List ℕ → FieldForm
 zero_if_missing mark = record { mark = mark; missing = Some (codes "0") }
 
+-- What stands for the value of a field that is left out, where no value is meant: a space, which no value has.
+abbrev pub left_out : List ℕ
+left_out = codes " "
+
+abbrev pub if_given : List ℕ → FieldForm
+if_given mark = record { mark = mark; missing = Some left_out }
+
 -- a line: its word, and its fields in their order
 pub record LineForm : Type 0 where
   pub name : List ℕ
@@ -105,6 +118,9 @@ attachment_fields = needed (codes " guid=") ∷ needed (codes " type=") ∷ need
 abbrev pub metadata_fields : List FieldForm
 metadata_fields = needed (codes " xml=") ∷ needed (codes " att=") ∷ []
 
+abbrev pub region_fields : List FieldForm
+region_fields = needed (codes " pixel=") ∷ needed (codes " layer=") ∷ needed (codes " x=") ∷ needed (codes " y=") ∷ needed (codes " w=") ∷ needed (codes " h=") ∷ if_given (codes " scene=") ∷ if_given (codes " plane=") ∷ []
+
 -- the lines that are built, and the words of the format's other lines
 abbrev pub lines : List LineForm
 lines = record { name = codes "add"; fields = tile_fields }
@@ -114,6 +130,7 @@ lines = record { name = codes "add"; fields = tile_fields }
     ∷ record { name = codes "reattach"; fields = attachment_fields }
     ∷ record { name = codes "detach"; fields = needed (codes " name=") ∷ [] }
     ∷ record { name = codes "meta"; fields = metadata_fields }
+    ∷ record { name = codes "region"; fields = region_fields }
     ∷ record { name = codes "list"; fields = [] }
     ∷ record { name = codes "info"; fields = [] }
     ∷ record { name = codes "map"; fields = [] }
@@ -121,7 +138,7 @@ lines = record { name = codes "add"; fields = tile_fields }
     ∷ []
 
 abbrev pub later_words : List (List ℕ)
-later_words = codes "undo" ∷ codes "repack" ∷ codes "region" ∷ []
+later_words = codes "undo" ∷ codes "repack" ∷ []
 
 abbrev pub is_among : List (List ℕ) → List ℕ → Bool
 is_among words w = list_any (bytes_eq w) words
@@ -193,6 +210,43 @@ pub record AttachmentValues (info : AttInfo) (len : ℕ) (values : List (List �
   pub is_name : IsPaddedText 80 name_text info.name
   pub is_data : IsSize data_text len
 
+-- a number from 1 to the greatest one
+abbrev pub IsCount : ℕ → List ℕ → ℕ → Type 0
+IsCount most text n = IsNatural text n × (1 ≤ n) × (n ≤ most)
+
+-- the code of a pixel type that can be painted
+abbrev pub IsPixel : List ℕ → PixelType → Type 0
+IsPixel text t = (code : ℤ) × IsSigned text code × (find (λ u. int_eq u.code code) pixel_types ≡ Some t)
+
+-- a scene, or none where it is left out; and a plane, which is empty where it is left out
+abbrev pub IsScene : List ℕ → Option ℤ → Type 0
+IsScene text None = text ≡ left_out
+IsScene text (Some n) = IsSigned text n
+
+abbrev pub IsPlane : List ℕ → List Axis → Type 0
+IsPlane text [] = text ≡ left_out
+IsPlane text (a ∷ axes) = IsPlaneText text (a ∷ axes)
+
+-- The values of a region's line.
+pub record RegionValues (q : Query) (values : List (List ℕ)) : Type 0 where
+  pub pixel_text : List ℕ
+  pub layer_text : List ℕ
+  pub x_text : List ℕ
+  pub y_text : List ℕ
+  pub w_text : List ℕ
+  pub h_text : List ℕ
+  pub scene_text : List ℕ
+  pub plane_text : List ℕ
+  pub texts : values ≡ pixel_text ∷ layer_text ∷ x_text ∷ y_text ∷ w_text ∷ h_text ∷ scene_text ∷ plane_text ∷ []
+  pub is_pixel : IsPixel pixel_text q.pixel
+  pub is_layer : IsCount (2 ^ 16) layer_text q.layer
+  pub is_x : IsSigned x_text q.x
+  pub is_y : IsSigned y_text q.y
+  pub is_w : IsCount (2 ^ 32 - 1) w_text q.w
+  pub is_h : IsCount (2 ^ 32 - 1) h_text q.h
+  pub is_scene : IsScene scene_text q.scene
+  pub is_plane : IsPlane plane_text q.plane
+
 -- what each line says, by its word and its values
 abbrev pub tile_word : Verb → List ℕ
 tile_word Adds = codes "add"
@@ -208,6 +262,7 @@ head_word (Alone (Removes dims)) = codes "remove"
 head_word (Brings (Attachment verb info len)) = attachment_word verb
 head_word (Alone (Detaches name)) = codes "detach"
 head_word (Brings (Metadata xml tail)) = codes "meta"
+head_word (Alone (Paints q)) = codes "region"
 head_word (Alone Lists) = codes "list"
 head_word (Alone Tells) = codes "info"
 head_word (Alone Maps) = codes "map"
@@ -219,6 +274,7 @@ AreValues (Alone (Removes dims)) values = (text : List ℕ) × (values ≡ text 
 AreValues (Brings (Attachment verb info len)) values = AttachmentValues info len values
 AreValues (Alone (Detaches name)) values = (text : List ℕ) × (values ≡ text ∷ []) × IsBytesText 80 text name
 AreValues (Brings (Metadata xml tail)) values = (a b : List ℕ) × (values ≡ a ∷ b ∷ []) × IsSize a xml × IsSize b tail
+AreValues (Alone (Paints q)) values = RegionValues q values
 AreValues (Alone Lists) values = values ≡ []
 AreValues (Alone Tells) values = values ≡ []
 AreValues (Alone Maps) values = values ≡ []
@@ -267,6 +323,7 @@ first_past (p ∷ ps) = if nat_lt p.limit p.len then Some p else first_past ps
 abbrev pub plain_command : Plain → Command
 plain_command (Removes dims) = Remove dims
 plain_command (Detaches name) = Detach name
+plain_command (Paints q) = Region q
 plain_command Lists = Listing
 plain_command Tells = Info
 plain_command Maps = Map

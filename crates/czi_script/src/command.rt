@@ -1,6 +1,6 @@
 //! The commands of a script.
 
-use czi_doc::{AttInfo, Bytes, Dims, EntryInfo};
+use czi_doc::{AttInfo, Bytes, Dims, EntryInfo, Query};
 
 /// One command of a script.
 #[derive(PartialEq, Eq, Drop)]
@@ -57,6 +57,11 @@ pub enum Command {
         xml: Bytes,
         /// What is attached to it.
         tail: Bytes,
+    },
+    /// `region`: a region of the image is to be painted.
+    Region {
+        /// What is asked for.
+        query: Query,
     },
     /// `list`: the subblocks are to be listed.
     List,

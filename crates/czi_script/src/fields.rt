@@ -13,6 +13,12 @@ use crate::payload::{Payload, Tile, Verb};
 use czi_doc::{EntryInfo, TextFault, read_dims, read_integer, read_natural};
 use std::alloc::Global;
 
+/// The value of a number that is left out.
+const ZERO: &[u8] = b"0";
+
+/// What stands for the value of a field that is left out, where no value is meant: no value has a space.
+pub(crate) const LEFT_OUT: &[u8] = b" ";
+
 /// Why a line is no command.
 #[derive(Clone, Copy, PartialEq, Eq)]
 pub(crate) enum Refusal {
@@ -63,13 +69,13 @@ pub(crate) fn value_at<'a>(mark: &[u8], text: &'a [u8]) -> Option<(&'a [u8], &'a
     Some(behind.split_at(len_before(b' ', behind)))
 }
 
-/// The value behind a mark, or `0` where the mark isn't there, and what stands behind it.
-fn value_or_zero<'a>(mark: &[u8], text: &'a [u8]) -> (&'a [u8], &'a [u8])
-    ensures some { MatchOption (value_at mark.now text.now) ((result.0.now ≡ codes "0") × (result.1.now ≡ text.now)) (λ s. (result.0.now ≡ s.value) × (result.1.now ≡ s.rest)) }
+/// The value behind a mark, or another where the mark isn't there, and what stands behind it.
+pub(crate) fn value_or<'a>(mark: &[u8], missing: &'a [u8], text: &'a [u8]) -> (&'a [u8], &'a [u8])
+    ensures some { MatchOption (value_at mark.now text.now) ((result.0.now ≡ missing.now) × (result.1.now ≡ text.now)) (λ s. (result.0.now ≡ s.value) × (result.1.now ≡ s.rest)) }
 {
     match value_at(mark, text) {
         Some(found) => found,
-        None => (b"0", text),
+        None => (missing, text),
     }
 }
 
@@ -86,8 +92,8 @@ fn texts_in(fields: &[u8]) -> Option<Texts<'_>>
     ensures { option_map values_in result ≡ values_at tile_fields fields.now }
 {
     let (pixel, rest) = value_at(b" pixel=", fields)?;
-    let (comp, rest) = value_or_zero(b" comp=", rest);
-    let (pyramid, rest) = value_or_zero(b" pyramid=", rest);
+    let (comp, rest) = value_or(b" comp=", ZERO, rest);
+    let (pyramid, rest) = value_or(b" pyramid=", ZERO, rest);
     let (dims, rest) = value_at(b" dims=", rest)?;
     let (meta, rest) = value_at(b" meta=", rest)?;
     let (pixels, rest) = value_at(b" data=", rest)?;

@@ -6,7 +6,7 @@ ghost use Rattle.czi_script.specs.View.{command_of, plain_of};
 
 use crate::command::Command;
 use crate::payload::Payload;
-use czi_doc::{Bytes, Dims};
+use czi_doc::{Bytes, Dims, Query};
 
 /// A command that its line says whole.
 #[derive(PartialEq, Eq, Drop)]
@@ -15,6 +15,8 @@ pub(crate) enum Plain {
     Remove(Dims),
     /// The attachment with this name is to go.
     Detach(Bytes),
+    /// This region is to be painted.
+    Region(Query),
     /// The subblocks are to be listed.
     List,
     /// Numbers of the document are to be told.
@@ -42,6 +44,7 @@ impl Plain {
         match self {
             Plain::Remove(dims) => Command::Remove { dims },
             Plain::Detach(name) => Command::Detach { name },
+            Plain::Region(query) => Command::Region { query },
             Plain::List => Command::List,
             Plain::Info => Command::Info,
             Plain::Map => Command::Map,

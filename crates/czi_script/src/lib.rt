@@ -13,6 +13,7 @@ mod laws;
 mod lines;
 mod payload;
 mod reader;
+mod regions;
 mod window;
 
 pub use command::Command;

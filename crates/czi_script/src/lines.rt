@@ -11,6 +11,7 @@ use crate::fields::{Refusal, bare_in, len_before, remove_in, tile_in};
 use crate::head::{Head, Plain};
 use crate::kind::Kind;
 use crate::payload::Verb;
+use crate::regions::region_in;
 use std::alloc::Global;
 
 /// How many bytes a line has at most, with its line feed.
@@ -46,7 +47,7 @@ pub(crate) fn front_of(bytes: &[u8], seen: usize) -> Front
 }
 
 /// The command words of the format that aren't built yet.
-const LATER_WORDS: [&str; 3] = ["undo", "repack", "region"];
+const LATER_WORDS: [&str; 2] = ["undo", "repack"];
 
 /// Whether the bytes are this text.
 fn is_text(bytes: &[u8], text: &str) -> bool
@@ -88,6 +89,8 @@ pub(crate) fn head_in(alloc: Global, line: &[u8]) -> Result<Head, Refusal>
         detach_in(alloc, fields)
     } else if is_text(word, "meta") {
         metadata_in(fields)
+    } else if is_text(word, "region") {
+        region_in(alloc, fields)
     } else if is_text(word, "list") {
         bare_in(Plain::List, fields)
     } else if is_text(word, "info") {

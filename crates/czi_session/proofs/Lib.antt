@@ -6,4 +6,5 @@ pub mod Spoken
 pub mod Refusing
 pub mod Stops
 pub mod Kept
+pub mod PieceWise
 pub mod Told

@@ -1,26 +1,28 @@
 -- A text that is said while a document stands.
-use Rattle.std.proofs.Common.{◌≡◌, ◌⊎◌, inl, inr, ⊎_elim, ℕ, None, Some, List, take, ◌++◌, ◌∙◌, ap, arith, refl, sym, subst}
+use Rattle.std.proofs.Common.{◌≡◌, ◌⊎◌, inl, inr, ⊎_elim, ℕ, ◌≤◌, None, Some, Result, Ok, Err, List, [], length, take, ◌++◌, ◌∙◌, ap, arith, refl, sym, subst}
 use Rattle.std.specs.Option.{ForSome}
-use Rattle.std.specs.Prelude.{option_map}
+use Rattle.std.specs.Prelude.{IfErr, option_map}
 use Rattle.std.proofs.lemmas.Option.{same_Some}
 use Rattle.czi_script.specs.Script.{Command}
 use Rattle.czi_session.specs.Course.{Model, OnlySays, Resting, RestsNow, Sealing, Stands, EitherSide, Unsealed, WhileSaid, WithinStep}
 use Rattle.czi_rig.specs.declared.rig.Rig.{Ghosts}
 use Rattle.czi_rig.specs.declared.file.File.{File}
-use Rattle.czi_rig.specs.declared.file.File.TheVariants.{Image, Journal}
+use Rattle.czi_rig.specs.declared.file.File.TheVariants.{Image as ImageFile, Journal}
 use Rattle.czi_rig.specs.Disk.{Disk, Left}
 use Rattle.czi_rig.specs.State.{State, SameFiles, MayLeaveSaying, known}
 use Rattle.czi_rig.specs.Passes.{GoesOn, Passes}
 use Rattle.czi_rig.specs.Moments.{CountsNow, OnlyNow, Throughout, LeavesNow, LeavesSaying}
 use Rattle.czi_rig.specs.Spans.{EachTwo, InSpans}
 use Rattle.czi_rig.proofs.Known.{is_honest, known_file, known_seen, leaves_now, may_leave, said_known, known_said}
-use Rattle.czi_rig.proofs.Runs.{run_begins, run_is, run_says, started, weaker}
+use Rattle.czi_rig.proofs.Runs.{joined, run_begins, run_says, started, weaker}
 use Rattle.czi_rig.proofs.Spans.{during, each_two, one_span, spans_then}
 use Rattle.czi_session.specs.declared.stop.EditorStop.{EditorStop}
 use Rattle.czi_session.specs.declared.stop.EditorStop.TheVariants.{Image as ImageOf, Journal as JournalOf, Memory as MemoryOf}
-use Rattle.czi_rig.specs.Faults.{image as the_image, journal as the_journal}
-use Rattle.czi_session.specs.Stops.{editor_device, stop_of}
-use Rattle.czi_session.specs.Ends.{MayBeSealed, StepStops}
+use Rattle.czi_rig.specs.Faults.{fault_at, image as the_image, journal as the_journal}
+use Rattle.czi_session.specs.Stops.{IsFile, editor_device, stop_device, stop_of}
+use Rattle.czi_session.specs.declared.stop.Stop.{Stop}
+use Rattle.czi_session.specs.declared.stop.Stop.TheVariants.{Image}
+use Rattle.czi_session.specs.Ends.{MayBeSealed, ReplyStops, SaidFront, StepStops}
 use Rattle.czi_session.proofs.Told.{still_told}
 
 pub while_said : (m : Model) (on : Disk → Disk → m.Document → Type 0) → RestsNow m on → (state : State) (before bytes text : List ℕ) (s : m.Document) (h : Stands m on state before s) → bytes ≡ text
@@ -60,12 +62,10 @@ said_stands m on old new before bytes text s h is same said = record {
 
 module _ {D : Type 0} (rig : Ghosts D) where
   -- after a command, while its reply is said
-  pub step_says : {first old new : D} (m : Model) (on : Disk → Disk → m.Document → Type 0) → RestsNow m on → (s : m.Document) (c : Command) (before bytes : List ℕ) → Throughout rig first old (EitherSide m s c before)
-      → Stands m on (rig.state old) before (m.after s c) → bytes ≡ m.reply s c
-      → Passes (rig.state old) (rig.state new) (rig.left_since old) (rig.left_since new) (MayLeaveSaying (rig.state old) bytes) → Throughout rig first new (WithinStep m s c before)
-  step_says {old = old} m on rests_now s c before bytes part h is time =
-      run_says rig bytes (run_is rig h.known (weaker rig (λ i j o p. inl p) part)) time
-      (λ i j o l. inr (while_said m on rests_now (rig.state old) before bytes (m.reply s c) (m.after s c) h is i j o l))
+  pub step_says : {first old new : D} (m : Model) (on : Disk → Disk → m.Document → Type 0) → RestsNow m on → (s : m.Document) (c : Command) (before text : List ℕ) → Throughout rig first old (EitherSide m s c before)
+      → Stands m on (rig.state old) before (m.after s c) → m.reply s c ≡ text → OnlySays rig old new text → Throughout rig first new (WithinStep m s c before)
+  step_says {old = old} m on rests_now s c before text part h is only = joined rig (weaker rig (λ i j o p. inl p) part)
+      (weaker rig (λ i j o l. inr (while_said m on rests_now (rig.state old) before text (m.reply s c) (m.after s c) h (sym is) i j o l)) (only.moments h.now h.known))
 
   -- while a text is said
   pub text_says : {old new : D} (m : Model) (on : Disk → Disk → m.Document → Type 0) → RestsNow m on → (s : m.Document) (bytes before text : List ℕ) → Stands m on (rig.state old) before s → bytes ≡ text
@@ -73,10 +73,27 @@ module _ {D : Type 0} (rig : Ghosts D) where
   text_says {old = old} m on rests_now s bytes before text h is time =
       run_says rig bytes (run_begins rig old h.now _ h.known) time (λ i j o l. while_said m on rests_now (rig.state old) before bytes text s h is i j o l)
 
+-- a command was done, and its reply stopped
+pub reply_stops : (m : Model) (state : State) (s : m.Document) (c : Command) (before text : List ℕ) (left : ℕ) (stop : Stop) → m.reply s c ≡ text → (left ≡ 0) ⊎ m.looks s c
+    → ReplyStops m (Unsealed m) state (m.after s c) before text left stop → StepStops m (Unsealed m) state s c before stop
+reply_stops m state s c before text left stop is one (why, n, le, stands) =
+    let front : SaidFront m (Unsealed m) state s c before = subst (λ (z : List ℕ). (k : ℕ) × (k ≤ length z) × Stands m (Unsealed m) state (before ++ take k z) (m.after s c)) (sym is) (n, le, stands) in
+    ⊎_elim
+    (λ output. subst (λ (z : Stop). StepStops m (Unsealed m) state s c before z) (sym output) front)
+    (λ image. subst (λ (z : Stop). StepStops m (Unsealed m) state s c before z) (sym image.0) (inr (⊎_elim (λ none. absurd (image.1 none)) (λ looks. looks) one, front))) why
+
+-- of the files the image alone, in a command that looks into it
+pub reply_file : (m : Model) (on : Disk → Disk → m.Document → Type 0) (state : State) (s t : m.Document) (c : Command) (before text : List ℕ) (left : ℕ) (result : Result (Unit {0}) Stop) → (left ≡ 0) ⊎ m.looks s c
+    → IfErr result (λ stop. ReplyStops m on state t before text left stop) → IsFile (fault_at stop_device result) → (result ≡ Err Image) × m.looks s c
+reply_file m on state s t c before text left (Ok done) one stops file = absurd file
+reply_file m on state s t c before text left (Err stop) one (why, n, le, stands) file = ⊎_elim
+    (λ output. absurd (subst (λ (z : Stop). IsFile (stop_device z)) output file))
+    (λ image. (ap (λ (z : Stop). let r : Result (Unit {0}) Stop = Err z in r) image.0, ⊎_elim (λ none. absurd (image.1 none)) (λ looks. looks) one)) why
+
 -- a command that did nothing stopped
 pub perform_stops : (m : Model) (on : Disk → Disk → m.Document → Type 0) → RestsNow m on → (old new : State) (said : List ℕ) (s : m.Document) (c : Command) (stop : EditorStop) → Stands m on old said s → new.said ≡ old.said
     → (m.still s c → editor_device stop ≡ None) → (stop ≡ MemoryOf → new ≡ old) → StepStops m (Unsealed m) new s c said (stop_of stop)
-perform_stops m on rests_now old new said s c ImageOf h same quiet starved = (same ∙ said_known_of m on old said s h, λ still. let none : Some the_image ≡ None = quiet still in cc)
+perform_stops m on rests_now old new said s c ImageOf h same quiet starved = inl (same ∙ said_known_of m on old said s h, λ still. let none : Some the_image ≡ None = quiet still in cc)
 perform_stops m on rests_now old new said s c JournalOf h same quiet starved = (same ∙ said_known_of m on old said s h, λ still. let none : Some the_journal ≡ None = quiet still in cc)
 perform_stops m on rests_now old new said s c MemoryOf h same quiet starved =
     subst (λ (state : State). Stands m (Unsealed m) state said s) (sym (starved refl)) (stands_rest m on rests_now old said s h)
@@ -89,13 +106,9 @@ module _ {D : Type 0} (rig : Ghosts D) where
     moments = λ all known. started rig old (LeavesSaying all text);
   })
 
-  -- only a text was said
-  pub text_said : (old mid new : D) (bytes text : List ℕ) → mid ≡ old → bytes ≡ text → SameFiles (rig.state mid) (rig.state new)
-      → Passes (rig.state mid) (rig.state new) (rig.left_since mid) (rig.left_since new) (MayLeaveSaying (rig.state mid) bytes) → OnlySays rig old new text
-  text_said old mid new bytes text is same files time = subst (λ (r : D). OnlySays rig r new text) is (subst (λ (x : List ℕ). OnlySays rig mid new x) same (record {
-    files = files;
-    moments = λ all known. run_says rig bytes (run_begins rig mid all _ known) time (λ i j o now. now);
-  }))
+  -- no call was made, and then a text was said
+  pub text_said : (old mid new : D) (said text : List ℕ) → mid ≡ old → text ≡ said → OnlySays rig mid new said → OnlySays rig old new text
+  text_said old mid new said text is same only = subst (λ (r : D). OnlySays rig r new text) is (subst (λ (x : List ℕ). OnlySays rig mid new x) (sym same) only)
 
 -- files that rest
 pub rests_as_said : (m : Model) → RestsNow m (Unsealed m)
@@ -115,9 +128,9 @@ module _ {D : Type 0} (rig : Ghosts D) (only : OnlyNow rig) (m : Model) (on : Di
   saying_alike {old = old} bytes h time = alike_during h (run_says rig bytes (run_begins rig old h.now _ h.known) time (λ i j o l. (l.2.image_is, l.2.journal_is)))
 
   -- after something that was done
-  pub done_alike : (old mid new : D) (bytes : List ℕ) → EachTwo rig old mid m.alike → Stands m on (rig.state mid) before s → Passes (rig.state mid) (rig.state new) (rig.left_since mid) (rig.left_since new) (MayLeaveSaying (rig.state mid) bytes)
-      → InSpans rig old new m.alike
-  done_alike old mid new bytes done h time = spans_then rig m.alike old mid new (one_span rig m.alike old mid done) (one_span rig m.alike mid new (saying_alike bytes h time))
+  pub done_alike : (old mid new : D) (text : List ℕ) → EachTwo rig old mid m.alike → Stands m on (rig.state mid) before s → OnlySays rig mid new text → InSpans rig old new m.alike
+  done_alike old mid new text done h only = spans_then rig m.alike old mid new (one_span rig m.alike old mid done)
+      (one_span rig m.alike mid new (alike_during h (weaker rig (λ i j o l. (l.2.image_is, l.2.journal_is)) (only.moments h.now h.known))))
 
   -- a journal after its sealing, also where that failed
   pub may_be_sealed : {old new : D} → CountsNow rig → ((r : D) (f : File) → ForSome (known (rig.state r) f) (λ disk. Left disk.durable disk.seen)) → Stands m on (rig.state old) before s
@@ -127,7 +140,7 @@ module _ {D : Type 0} (rig : Ghosts D) (only : OnlyNow rig) (m : Model) (on : Di
       let now = still.now in
       let t : ℕ = (rig.state old).moment in
       let left : LeavesNow now now.image.seen now.journal.seen now.said = record {
-        image_is = reads new Image now.image (known_file (rig.state new) Image now still.known);
+        image_is = reads new ImageFile now.image (known_file (rig.state new) ImageFile now still.known);
         journal_is = reads new Journal now.journal (known_file (rig.state new) Journal now still.known);
         said_is = refl;
       } in

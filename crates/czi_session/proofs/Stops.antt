@@ -93,12 +93,18 @@ alone_with Done a b x ends cause = record { rig = cause; input_count = refl }
 alone_with Refused a b x ends cause = record { rig = cause; input_count = refl }
 alone_with (Stopped stop) a b x ends cause = record { rig = cause; input_count = no_input stop x x ends refl }
 
+-- what is so of each error is so of an answer's
+pub if_err_at : {T E : Type 0} {P Q : E → Type 0} → ((error : E) → P error → Q error) → (result : Result T E) → IfErr result P → IfErr result Q
+if_err_at h (Ok done) p = tt
+if_err_at h (Err error) p = h error p
+
 -- where no device failed, no file did
 pub no_file : (at : Option Device) → at ≡ None → IsFile at → ⊥
 no_file at none file = subst IsFile none file
 
-pub image_is_file : (stop : Stop) → (IsFile (stop_device stop) → ⊥) → (let r : Result (Unit {0}) Stop = Err stop in r) ≢ Err Image
-image_is_file stop none = λ is. let same : stop ≡ Image = cc in none (subst (λ s. IsFile (stop_device s)) (sym same) tt)
+-- where the image alone may have failed, it failed
+pub image_looks : {P : Type 0} (stop : Stop) → (IsFile (stop_device stop) → (let r : Result (Unit {0}) Stop = Err stop in r ≡ Err Image) × P) → (let r : Result (Unit {0}) Stop = Err stop in r) ≡ Err Image → P
+image_looks stop at is = let same : stop ≡ Image = cc in (at (subst (λ s. IsFile (stop_device s)) (sym same) tt)).1
 
-pub stopped_no_image : (stop : Stop) → (let r : Result (Unit {0}) Stop = Err stop in r) ≢ Err Image → Stopped stop ≢ Stopped Image
-stopped_no_image stop other = λ is. let same : stop ≡ Image = cc in other (ap (λ (s : Stop). let r : Result (Unit {0}) Stop = Err s in r) same)
+pub stopped_looks : {P : Type 0} (stop : Stop) → ((let r : Result (Unit {0}) Stop = Err stop in r) ≡ Err Image → P) → Stopped stop ≡ Stopped Image → P
+stopped_looks stop at is = let same : stop ≡ Image = cc in at (ap (λ (s : Stop). let r : Result (Unit {0}) Stop = Err s in r) same)

@@ -1,5 +1,5 @@
 -- A run of commands, and what a crash leaves of it.
-use Rattle.std.specs.Prelude.{◌≡◌, ◌⊎◌, ℕ, zero, suc, ◌+◌, ◌-◌, ◌≤◌, List, [], ◌∷◌, ◌++◌, length, take, Option, Some}
+use Rattle.std.specs.Prelude.{◌≡◌, ◌⊎◌, ℕ, zero, suc, ◌+◌, ◌-◌, ◌≤◌, Bool, true, false, List, [], ◌∷◌, ◌++◌, length, take, Option, Some}
 use Rattle.std.specs.List.{concat}
 use Rattle.std.specs.Option.{ForSome}
 use Rattle.czi_script.specs.Script.{Command, End, Reads}
@@ -16,8 +16,8 @@ use Rattle.czi_session.specs.Stops.{IsFile}
 -- without a journal, wait for it or show a state's document; which image a pair stands for; which two pairs have the same bytes
 -- in each item that both need; at which states a run over an image and a journal begins; which pairs are refused and with what
 -- text; which pairs stand for what an earlier one stood for; what a journal that isn't sealed says at a state; which journals are
--- void; what a command makes of a state, and its reply there; and which commands change nothing of a state, as queries and edits
--- that are refused.
+-- void; what a command makes of a state, and its reply there; which commands change nothing of a state, as queries and edits
+-- that are refused; and which look into the image for their reply.
 pub record Model : Type 1 where
   pub Document : Type 0
   pub opens : List ℕ → List ℕ → Document → Type 0
@@ -32,6 +32,7 @@ pub record Model : Type 1 where
   pub after : Document → Command → Document
   pub reply : Document → Command → List ℕ
   pub still : Document → Command → Type 0
+  pub looks : Document → Command → Type 0
 
 -- the state after these commands
 abbrev pub state_after : (m : Model) → m.Document → List Command → m.Document
@@ -85,6 +86,19 @@ pub record Stands (m : Model) (on : Disk → Disk → m.Document → Type 0) (st
   pub known : devices state ≡ Some now
   pub said_is : now.said ≡ said
   pub stands : on now.image now.journal s
+
+-- A command's reply is said piece after piece: this piece now, and then a rest that is owed, in at most so many pieces. Only a
+-- command that looks into the image has more than one.
+pub record Replied (m : Model) (s : m.Document) (c : Command) (piece : List ℕ) (owes : List ℕ → Type 0) (left : ℕ) : Type 0 where
+  pub rest : List ℕ
+  pub whole : m.reply s c ≡ piece ++ rest
+  pub owed : owes rest
+  pub one : (left ≡ 0) ⊎ m.looks s c
+
+-- Of a rest that was owed this piece comes next, and what is behind it is owed; or nothing was left of it.
+abbrev pub NextPiece : Bool → (rest piece : List ℕ) → (List ℕ → Type 0) → Type 0
+NextPiece true rest piece owes = (later : List ℕ) × (rest ≡ piece ++ later) × owes later
+NextPiece false rest piece owes = rest ≡ []
 
 -- while the files are opened
 abbrev pub Open : (m : Model) → m.Document → List ℕ → Instant

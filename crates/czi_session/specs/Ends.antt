@@ -1,5 +1,5 @@
 -- How a run ends.
-use Rattle.std.specs.Prelude.{◌≡◌, ◌⊎◌, ℕ, ◌+◌, ◌<◌, ◌≤◌, ◌^◌, List, [], ◌∷◌, ◌++◌, length, take, drop, Option, Some, Result, Ok, Err}
+use Rattle.std.specs.Prelude.{◌≡◌, ◌≢◌, ◌⊎◌, ℕ, ◌+◌, ◌<◌, ◌≤◌, ◌^◌, List, [], ◌∷◌, ◌++◌, length, take, drop, Option, Some, Result, Ok, Err}
 use Rattle.std.specs.Option.{ForSome}
 use Rattle.std.specs.List.{concat}
 use Rattle.czi_rig.specs.Disk.{Disk}
@@ -30,6 +30,11 @@ abbrev pub RefusesPair : Model → Devices → State → OpenStop → Type 0
 RefusesPair m all state (RefusedOf text) = m.refuses all.image.seen all.journal.seen text.items × OnlyRecovered m all state
 RefusesPair m all state (StoppedOf stop) = Unit {0}
 
+-- Where a reply stops that has so many pieces behind the first, for a fault of the output or, between two pieces, of the image, a
+-- front of it was said.
+abbrev pub ReplyStops : (m : Model) → (Disk → Disk → m.Document → Type 0) → State → m.Document → (before text : List ℕ) → ℕ → Stop → Type 0
+ReplyStops m on state s before text left stop = ((stop ≡ Output) ⊎ ((stop ≡ Image) × (left ≢ 0))) × (n : ℕ) × (n ≤ length text) × Stands m on state (before ++ take n text) s
+
 -- The journal as read isn't sealed, at a state. Or it may be: it says what it said, or is void.
 abbrev pub IsUnsealed : (m : Model) → State → m.Document → Type 0
 IsUnsealed m state s = ForSome (seen_of state files.Journal) (m.holds s)
@@ -38,11 +43,16 @@ abbrev pub MayBeSealed : (m : Model) → State → m.Document → Type 0
 MayBeSealed m state s = ForSome (seen_of state files.Journal) (λ journal. m.holds s journal ⊎ m.void journal)
 
 module _ (m : Model) (on : Disk → Disk → m.Document → Type 0) (state : State) where
-  -- Where one command and its reply stop, this was said. A file fails only in a command that changes something. At a fault of
-  -- the output the state after it stands, and where memory is wanting the one before it.
+  -- a front of a reply was said, and the state after its command stands
+  abbrev pub SaidFront : m.Document → Command → List ℕ → Type 0
+  SaidFront s c before = (n : ℕ) × (n ≤ length (m.reply s c)) × Stands m on state (before ++ take n (m.reply s c)) (m.after s c)
+
+  -- Where one command and its reply stop, this was said. A file fails in a command that changes something, and the image also in the
+  -- reply of one that looks into it. At a fault within a reply the state after its command stands, and where memory is wanting the
+  -- one before it.
   abbrev pub StepStops : m.Document → Command → List ℕ → Stop → Type 0
-  StepStops s c before Output = (n : ℕ) × (n ≤ length (m.reply s c)) × Stands m on state (before ++ take n (m.reply s c)) (m.after s c)
-  StepStops s c before Image = (state.said ≡ Some before) × (m.still s c → ⊥)
+  StepStops s c before Output = SaidFront s c before
+  StepStops s c before Image = ((state.said ≡ Some before) × (m.still s c → ⊥)) ⊎ (m.looks s c × SaidFront s c before)
   StepStops s c before Journal = (state.said ≡ Some before) × (m.still s c → ⊥)
   StepStops s c before Memory = Stands m on state before s
   StepStops s c before Input = ⊥

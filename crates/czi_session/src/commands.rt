@@ -55,7 +55,7 @@ pub(crate) fn commands<E: Editor, R: Rig, S: Source>(
     loop {
         match reader.next(input) {
             Ok(Some(command)) => {
-                let done = step(alloc, editor, rig, &command);
+                let done = step(editor, rig, &command);
                 drop(command);
                 done?;
             }

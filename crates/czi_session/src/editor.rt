@@ -1,16 +1,17 @@
 //! Editors of an image and a journal.
 
-ghost use Rattle.std.specs.Prelude.{◌≡◌, ◌<◌, ◌++◌, List, ℕ, Option, Result, MatchResult, IfOk, IfErr, OnOk, length};
+ghost use Rattle.std.specs.Prelude.{◌≡◌, ◌<◌, List, ℕ, true, false, Option, Result, MatchResult, IfOk, IfErr, OnOk, length};
 ghost use Rattle.std.specs.Option.{ForSome};
 ghost use Rattle.czi_rig.specs.Disk.{Disk};
 ghost use Rattle.czi_rig.specs.State.{State, SameFiles, seen_of};
 ghost use Rattle.czi_rig.specs.Faults.{Faults, device_of, failed_at, fault_at};
 ghost use Rattle.czi_rig.specs.Passes.{GoesOn};
 ghost use Rattle.czi_rig.specs.Moments.{Throughout, Devices, devices, FromSomeMoment};
+ghost use Rattle.czi_rig.specs.Quiet.{Untouched};
 ghost use Rattle.czi_rig.specs.Spans.{EachTwo};
 ghost use Rattle.czi_script.specs.Script.{Command as Cmd};
 ghost use Rattle.czi_script.specs.View.{command_of};
-ghost use Rattle.czi_session.specs.Course.{EitherSide, IsUnrefused, KeepsFiles, Model, OnceAlike, OnceDurable, Open, Opening, Sealed, Sealing, Stands, Unsealed};
+ghost use Rattle.czi_session.specs.Course.{EitherSide, IsUnrefused, KeepsFiles, Model, NextPiece, OnceAlike, OnceDurable, Open, Opening, Replied, Sealed, Sealing, Stands, Unsealed};
 ghost use Rattle.czi_session.specs.Stops.{editor_device, open_device};
 ghost use Rattle.czi_session.specs.Ends.{IsNoRefusal, RefusesPair};
 
@@ -19,7 +20,8 @@ use czi_rig::{Failed, File, Rig};
 use czi_script::Command;
 use std::alloc::Global;
 
-/// Does commands on an image and a journal. It says nothing itself.
+/// Does commands on an image and a journal. It says nothing itself: a reply is taken from it piece after piece, so that a long one
+/// stands nowhere as a whole.
 pub trait Editor: Drop {
     /// What it is about.
     ghost model: { Model };
@@ -53,24 +55,28 @@ pub trait Editor: Drop {
         ensures goes_on { GoesOn (R.state rig.old) (R.state rig.new) }
         ensures cause { Faults (fault_at open_device result) (R.state rig.old) (R.state rig.new) };
 
-    /// Does a command, and appends its reply. That a command is refused is a reply too. After an `Err` it may not be
-    /// used again.
+    /// The piece of a reply that is to be said now.
+    ghost says: { Self → List ℕ };
+
+    /// Behind that piece it has this to say yet, of a command that led to this state.
+    ghost owes: { Self → model.Document → List ℕ → Type 0 };
+
+    /// So many pieces come behind it at most.
+    ghost pieces_left: { Self → ℕ };
+
+    /// Does a command, and has then its reply to say, piece after piece. That a command is refused is a reply too. After an
+    /// `Err` it may not be used again.
     ///
     /// # Errors
     ///
     /// A fault of a file, whose count alone rose, or want of memory.
-    fn perform<R: Rig>(
-        &mut self,
-        rig: &mut R,
-        command: &Command,
-        reply: &mut Vec<u8>,
-    ) -> Result<(), EditorStop>
+    fn perform<R: Rig>(&mut self, rig: &mut R, command: &Command) -> Result<(), EditorStop>
         requires ready { ready self.old (R.state rig.old) }
         ensures moments { (said : List ℕ) (s : model.Document) → Stands model (stands self.old) (R.state rig.old) said s →
             Throughout R.Rig rig.old rig.new (EitherSide model s (command_of command.now) said) }
         ensures alike { (said : List ℕ) (s : model.Document) → Stands model (stands self.old) (R.state rig.old) said s → EachTwo R.Rig rig.old rig.new model.alike }
         ensures ok { OnOk result ((said : List ℕ) (s : model.Document) → Stands model (stands self.old) (R.state rig.old) said s →
-            (reply.new.items ≡ reply.old.items ++ model.reply s (command_of command.now)) × Stands model (stands self.new) (R.state rig.new) said (model.after s (command_of command.now))) }
+            Replied model s (command_of command.now) (says self.new) (owes self.new (model.after s (command_of command.now))) (pieces_left self.new) × Stands model (stands self.new) (R.state rig.new) said (model.after s (command_of command.now))) }
         ensures ready { OnOk result (ready self.new (R.state rig.new)) }
         ensures said { (R.state rig.new).said ≡ (R.state rig.old).said }
         ensures goes_on { GoesOn (R.state rig.old) (R.state rig.new) }
@@ -80,6 +86,24 @@ pub trait Editor: Drop {
         // All memory is taken before the first call.
         ensures starved { result ≡ Result.Err EditorStop.Memory → rig.new ≡ rig.old }
         ensures cause { Faults (fault_at editor_device result) (R.state rig.old) (R.state rig.new) };
+
+    /// The piece of the reply that is to be said now.
+    fn piece(&self) -> &[u8]
+        ensures { result.now ≡ says self.now };
+
+    /// Goes on to the next piece of the reply, for which it may read the image. False where none is left. No memory is taken. After
+    /// `Failed` it may not be used again.
+    fn next_piece<R: Rig>(&mut self, rig: &mut R) -> Result<bool, Failed>
+        requires ready { ready self.old (R.state rig.old) }
+        ensures next { IfOk result (λ more. (said : List ℕ) (s : model.Document) (rest : List ℕ) → Stands model (stands self.old) (R.state rig.old) said s → owes self.old s rest →
+            NextPiece more rest (says self.new) (owes self.new s)) }
+        ensures stands { OnOk result ((image journal : Disk) (s : model.Document) → stands self.old image journal s → stands self.new image journal s) }
+        ensures ready { OnOk result (ready self.new (R.state rig.new)) }
+        // Where none is left, no call is made.
+        ensures whole { pieces_left self.old ≡ 0 → (result ≡ Result.Ok false) × (rig.new ≡ rig.old) }
+        ensures fewer { IfOk result (λ more. more ≡ true → pieces_left self.new < pieces_left self.old) }
+        ensures untouched { Untouched R.Rig rig.old rig.new }
+        ensures cause { Faults (failed_at result (device_of File.Image)) (R.state rig.old) (R.state rig.new) };
 
     /// Makes the journal void.
     ///

@@ -4,6 +4,7 @@
 
 mod commands;
 mod editor;
+mod pieces;
 mod steps;
 mod stop;
 mod text;

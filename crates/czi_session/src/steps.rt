@@ -1,6 +1,6 @@
 //! The steps of a run.
 
-ghost use Rattle.std.specs.Prelude.{◌≡◌, ◌⊎◌, ◌++◌, List, ℕ, Option, MatchResult, IfOk, IfErr, OnOk};
+ghost use Rattle.std.specs.Prelude.{◌≡◌, ◌⊎◌, ◌++◌, Err, List, ℕ, Option, MatchResult, IfOk, IfErr, OnOk};
 ghost use Rattle.std.specs.Option.{ForSome};
 ghost use Rattle.czi_rig.specs.State.{SameFiles, seen_of};
 ghost use Rattle.czi_rig.specs.Faults.{Faults, fault_at};
@@ -13,6 +13,7 @@ ghost use Rattle.czi_session.specs.Stops.{EndsOpening, EndsUnopened, IsFile, Sto
 ghost use Rattle.czi_session.specs.Ends.{MayBeSealed, SaysRefusal, OpeningEnds, RefusedEnds, EndsRefused, StepStops, TextStops};
 ghost use Rattle.czi_session.specs.Text.{fault_line};
 
+use crate::pieces::say_reply;
 use crate::stop::stop_of;
 use crate::text::fault_text;
 use crate::{Editor, Ended, OpenStop, Stop};
@@ -59,7 +60,6 @@ pub(crate) fn opened<E: Editor, R: Rig>(alloc: Global, rig: &mut R) -> Result<E,
 
 /// Does a command and says its whole reply.
 pub(crate) fn step<E: Editor, R: Rig>(
-    alloc: Global,
     editor: &mut E,
     rig: &mut R,
     command: &Command,
@@ -73,19 +73,15 @@ pub(crate) fn step<E: Editor, R: Rig>(
     ensures ready { OnOk result (E.ready editor.new (R.state rig.new)) }
     ensures stops { IfErr result (λ stop. (said : List ℕ) (s : E.model.Document) → Stands E.model (E.stands editor.old) (R.state rig.old) said s →
         StepStops E.model (Unsealed E.model) (R.state rig.new) s (command_of command.now) said stop) }
-    // A command that changes nothing leaves both files alone, and stops for no fault of them.
+    // A command that changes nothing leaves both files alone, and stops for no fault of them, unless it looks into the image.
     ensures still { (said : List ℕ) (s : E.model.Document) → Stands E.model (E.stands editor.old) (R.state rig.old) said s → E.model.still s (command_of command.now) →
-        OnlySays R.Rig rig.old rig.new (E.model.reply s (command_of command.now)) × (IsFile (fault_at stop_device result) → ⊥) }
+        OnlySays R.Rig rig.old rig.new (E.model.reply s (command_of command.now)) × (IsFile (fault_at stop_device result) → (result ≡ Err Stop.Image) × E.model.looks s (command_of command.now)) }
     ensures alone { IfErr result StopsAlone }
     ensures goes_on { GoesOn (R.state rig.old) (R.state rig.new) }
     ensures cause { Faults (fault_at stop_device result) (R.state rig.old) (R.state rig.new) }
 {
-    let mut reply = Vec::new(alloc);
-    match editor.perform(rig, command, &mut reply) {
-        Ok(()) => match rig.say(&reply) {
-            Ok(()) => Ok(()),
-            Err(_) => Err(Stop::Output),
-        },
+    match editor.perform(rig, command) {
+        Ok(()) => say_reply(editor, rig),
         Err(stop) => Err(stop_of(stop)),
     }
 }

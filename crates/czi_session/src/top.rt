@@ -1,6 +1,6 @@
 //! A run over a script, and one command alone.
 
-ghost use Rattle.std.specs.Prelude.{◌≡◌, ◌≢◌, ◌⊎◌, ◌++◌, ◌∷◌, ◌≤◌, ◌^◌, List, ℕ, [], Err, Option, MatchResult, IfErr, OnOk, length};
+ghost use Rattle.std.specs.Prelude.{◌≡◌, ◌⊎◌, ◌++◌, ◌∷◌, ◌≤◌, ◌^◌, List, ℕ, [], Err, Option, MatchResult, IfErr, OnOk, length};
 ghost use Rattle.std.specs.Option.{ForSome};
 ghost use Rattle.czi_rig.specs.State.{seen_of};
 ghost use Rattle.czi_rig.specs.Faults.{Faults, FaultsWith, fault_at};
@@ -53,12 +53,7 @@ fn script<E: Editor, R: Rig, S: Source>(
 }
 
 /// Does one command, says its whole reply, and seals the journal.
-fn single<E: Editor, R: Rig>(
-    alloc: Global,
-    editor: E,
-    rig: &mut R,
-    command: &Command,
-) -> Result<(), Stop>
+fn single<E: Editor, R: Rig>(editor: E, rig: &mut R, command: &Command) -> Result<(), Stop>
     requires ready { E.ready editor (R.state rig.old) }
     ensures moments { (said : List ℕ) (s : E.model.Document) → Stands E.model (E.stands editor) (R.state rig.old) said s →
         Throughout R.Rig rig.old rig.new (ReadsToPrefix E.model s (command_of command.now ∷ []) [] said) }
@@ -67,15 +62,16 @@ fn single<E: Editor, R: Rig>(
         MatchResult result (λ _. Stands E.model (Sealed E.model) (R.state rig.new) (said ++ E.model.reply s (command_of command.now)) (E.model.after s (command_of command.now)))
         (λ stop. OneStops E.model (R.state rig.new) s (command_of command.now) said stop) }
     ensures void { OnOk result (ForSome (seen_of (R.state rig.new) File.Journal) E.model.void) }
-    // A command that changes nothing leaves both files alone until its reply is said, and stops for no fault of the image.
+    // A command that changes nothing leaves both files alone until its reply is said, and stops for no fault of the image, unless it
+    // looks into it.
     ensures still { (said : List ℕ) (s : E.model.Document) → Stands E.model (E.stands editor) (R.state rig.old) said s → E.model.still s (command_of command.now) →
-        RepliesOnly R.Rig rig.old rig.new E.model said (E.model.reply s (command_of command.now)) (E.model.after s (command_of command.now)) × (result ≢ Err Stop.Image) }
+        RepliesOnly R.Rig rig.old rig.new E.model said (E.model.reply s (command_of command.now)) (E.model.after s (command_of command.now)) × (result ≡ Err Stop.Image → E.model.looks s (command_of command.now)) }
     ensures alone { IfErr result StopsAlone }
     ensures goes_on { GoesOn (R.state rig.old) (R.state rig.new) }
     ensures cause { Faults (fault_at stop_device result) (R.state rig.old) (R.state rig.new) }
 {
     let mut editor = editor;
-    match step(alloc, &mut editor, rig, command) {
+    match step(&mut editor, rig, command) {
         Ok(()) => sealed(editor, rig),
         Err(stop) => Err(stop),
     }
@@ -117,15 +113,16 @@ fn one_alone<E: Editor, R: Rig>(alloc: Global, rig: &mut R, command: &Command) -
     ensures refused { result ≡ Ended.Refused → EndsRefused E.model (R.state rig.old) (R.state rig.new) }
     ensures kept { KeepsRefused R.Rig rig.old rig.new E.model (end_device result) }
     ensures refuses { IsUnrefused E.model (R.state rig.old) ⊎ (EndsUnopened result × RefusedEnds E.model (R.state rig.old) (R.state rig.new) result) }
-    // Where the command changes nothing, both files are left alone from the opening to the reply.
+    // Where the command changes nothing, both files are left alone from the opening to the reply, and the image fails only one that
+    // looks into it.
     ensures reads { (said : List ℕ) (s : E.model.Document) → Opening E.model (R.state rig.old) said s → E.model.still s (command_of command.now) →
-        OpeningEnds E.model (R.state rig.new) s said result ⊎ (OnlyReads R.Rig rig.old rig.new E.model said (E.model.reply s (command_of command.now)) s (E.model.after s (command_of command.now)) × (result ≢ Ended.Stopped Stop.Image)) }
+        OpeningEnds E.model (R.state rig.new) s said result ⊎ (OnlyReads R.Rig rig.old rig.new E.model said (E.model.reply s (command_of command.now)) s (E.model.after s (command_of command.now)) × (result ≡ Ended.Stopped Stop.Image → E.model.looks s (command_of command.now))) }
     ensures alone { EndsAlone result }
     ensures goes_on { GoesOn (R.state rig.old) (R.state rig.new) }
     ensures cause { Faults (end_device result) (R.state rig.old) (R.state rig.new) }
 {
     match opened::<E, R>(alloc, rig) {
-        Ok(editor) => match single(alloc, editor, rig, command) {
+        Ok(editor) => match single(editor, rig, command) {
             Ok(()) => Ended::Done,
             Err(stop) => Ended::Stopped(stop),
         },
@@ -188,9 +185,10 @@ pub fn one<E: Editor, R: Rig>(alloc: Global, rig: &mut R, command: &Command) -> 
     ensures goes_on { GoesOn (R.state rig.old) (R.state rig.new) }
     ensures cause { Faults (end_device result) (R.state rig.old) (R.state rig.new) }
     ensures alone { EndsAlone result }
-    // Where the command changes nothing, both files are left alone from the opening to the reply.
+    // Where the command changes nothing, both files are left alone from the opening to the reply, and the image fails only one that
+    // looks into it.
     ensures reads { (said : List ℕ) (s : E.model.Document) → Opening E.model (R.state rig.old) said s → E.model.still s (command_of command.now) →
-        OpeningEnds E.model (R.state rig.new) s said result ⊎ (OnlyReads R.Rig rig.old rig.new E.model said (E.model.reply s (command_of command.now)) s (E.model.after s (command_of command.now)) × (result ≢ Ended.Stopped Stop.Image)) }
+        OpeningEnds E.model (R.state rig.new) s said result ⊎ (OnlyReads R.Rig rig.old rig.new E.model said (E.model.reply s (command_of command.now)) s (E.model.after s (command_of command.now)) × (result ≡ Ended.Stopped Stop.Image → E.model.looks s (command_of command.now))) }
     ensures complete { (said : List ℕ) (s : E.model.Document) → Opening E.model (R.state rig.old) said s → Quiet (R.state rig.old) (R.state rig.new) 0 0 → Answers Ended.Done result }
     ensures refuses { (all : Devices) (text : List ℕ) → devices (R.state rig.old) ≡ Option.Some all → E.model.refuses all.image.seen all.journal.seen text →
         Quiet (R.state rig.old) (R.state rig.new) 0 0 → Answers Ended.Refused result }

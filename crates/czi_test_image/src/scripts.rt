@@ -105,7 +105,7 @@ static SCRIPTS: [Row; 62] = [
     (b"remove dims=C2147483648\n", 0, Some(Kind::Value)),
     (b"undo\n", 0, Some(Kind::Later)),
     (b"list\nrepack data=8\nlist", 1, Some(Kind::Later)),
-    (b"region  x=\n", 0, Some(Kind::Later)),
+    (b"region  x=\n", 0, Some(Kind::Field)),
     (b"adds\n", 0, Some(Kind::Word)),
     (b"add pixel=0 dims=C0 meta=0 data=0 att=0\n\n", 1, None),
     (
@@ -230,7 +230,7 @@ static SCRIPTS: [Row; 62] = [
 ];
 
 // The command words of the format that aren't built.
-static WORDS: [&str; 3] = ["undo", "repack", "region"];
+static WORDS: [&str; 2] = ["undo", "repack"];
 
 // How long a line is, whether a line feed follows, and what kind of fault it is.
 static LINES: [(usize, bool, Kind); 5] = [

@@ -1,5 +1,6 @@
 -- A count whose files were synced, and one byte more.
-use Rattle.std.proofs.Common.{◌≡◌, ℕ, ◌+◌, ◌^◌, ◌<◌, List, [], ◌∷◌, length, refl, ◌∙◌, ap, arith}
+use Rattle.std.proofs.Common.{◌≡◌, inl, ℕ, ◌+◌, ◌^◌, ◌<◌, List, [], ◌∷◌, ◌++◌, length, refl, sym, ◌∙◌, ap, arith, append-nil}
+use Rattle.czi_script.specs.Script.{Command}
 use Rattle.std.specs.Prelude.{min, option_map}
 use Rattle.std.specs.Option.{ForSome}
 use Rattle.std.proofs.lemmas.Grind.{common_steps}
@@ -12,8 +13,8 @@ use Rattle.czi_rig.proofs.Files.{left_settled}
 use Rattle.czi_rig.proofs.Known.{same_known, file_known, known_file, known_seen}
 use Rattle.czi_rig.proofs.Runs.{started, always}
 use Rattle.czi_rig.proofs.Spans.{each_two, one_span}
-use Rattle.czi_session.specs.Course.{AlikeFrom, Opening, Stands, Open}
-use Rattle.czi_test_run.specs.Counting.{counting, Counts}
+use Rattle.czi_session.specs.Course.{AlikeFrom, Opening, Replied, Stands, Open}
+use Rattle.czi_test_run.specs.Counting.{counting, Counts, ok_line}
 
 abbrev pub No : Instant
 No image journal said = ⊥
@@ -55,3 +56,7 @@ one_more old mid new said s at h less at_is same other is =
       said_is = h.said_is;
       stands = record { rest = refl; count = length_more h.now.image.seen at length_is ∙ (ap (λ (n : ℕ). n + 1) h.stands.count ∙ below s (omega (arith, less, length_is, h.stands.count))) };
     }
+
+-- the reply is one piece
+pub all_said : (s : ℕ) (c : Command) (old new : List ℕ) → old ≡ [] → new ≡ old ++ ok_line → Replied counting s c new (λ rest. rest ≡ []) 0
+all_said s c old new none is = record { rest = []; whole = sym (is ∙ ap (λ (z : List ℕ). z ++ ok_line) none) ∙ sym (append-nil new); owed = refl; one = inl refl }

@@ -25,6 +25,7 @@ counting = record {
   after = λ s c. min (s + 1) (2 ^ 62);
   reply = λ s c. ok_line;
   still = λ s c. ⊥;
+  looks = λ s c. ⊥;
 }
 
 -- the image is at rest, and has so many bytes

@@ -1,6 +1,6 @@
 //! An editor for tests.
 
-ghost use Rattle.std.specs.Prelude.{◌≡◌, ◌++◌, OnOk, ⊤};
+ghost use Rattle.std.specs.Prelude.{◌≡◌, ◌++◌, [], OnOk, ⊤};
 ghost use Rattle.czi_test_run.specs.Counting.{begins_counts, counting, Counts, ok_line, refused_once, rests_counts, says_ok};
 
 use czi_rig::{Failed, File, Rig, write_synced};
@@ -13,7 +13,9 @@ const MOST: u64 = 1 << 62;
 
 /// An editor that counts: each command makes the image longer by a byte, as far as a device takes it.
 #[derive(Drop)]
-pub(crate) struct Counter {}
+pub(crate) struct Counter {
+    reply: Vec<u8>,
+}
 
 /// Appends the reply of a counter.
 fn push_ok(reply: &mut Vec<u8>) -> Result<(), AllocError>
@@ -29,6 +31,12 @@ impl Editor for Counter {
 
     ghost ready = { λ editor state. ⊤ };
 
+    ghost says = { λ editor. editor.reply.items };
+
+    ghost owes = { λ editor s rest. rest ≡ [] };
+
+    ghost pieces_left = { λ editor. 0 };
+
     ghost stays_ready = { λ editor old new ready same on. ready };
 
     ghost rests_now = { λ editor image journal s stands. rests_counts image journal s stands };
@@ -39,23 +47,21 @@ impl Editor for Counter {
 
     ghost refused_once = { λ image journal text other so also. refused_once image journal text other so also };
 
-    fn open<R: Rig>(_alloc: Global, rig: &mut R) -> Result<Counter, OpenStop> {
+    fn open<R: Rig>(alloc: Global, rig: &mut R) -> Result<Counter, OpenStop> {
         match rig.sync(File::Image) {
             Ok(()) => match rig.sync(File::Journal) {
-                Ok(()) => Ok(Counter {}),
+                Ok(()) => Ok(Counter {
+                    reply: Vec::new(alloc),
+                }),
                 Err(_) => Err(OpenStop::Stopped(EditorStop::Journal)),
             },
             Err(_) => Err(OpenStop::Stopped(EditorStop::Image)),
         }
     }
 
-    fn perform<R: Rig>(
-        &mut self,
-        rig: &mut R,
-        _command: &Command,
-        reply: &mut Vec<u8>,
-    ) -> Result<(), EditorStop> {
-        let Ok(()) = push_ok(reply) else {
+    fn perform<R: Rig>(&mut self, rig: &mut R, _command: &Command) -> Result<(), EditorStop> {
+        self.reply.clear();
+        let Ok(()) = push_ok(&mut self.reply) else {
             return Err(EditorStop::Memory);
         };
         let Ok(at) = rig.len(File::Image) else {
@@ -68,6 +74,14 @@ impl Editor for Counter {
             Ok(()) => Ok(()),
             Err(_) => Err(EditorStop::Image),
         }
+    }
+
+    fn piece(&self) -> &[u8] {
+        &self.reply
+    }
+
+    fn next_piece<R: Rig>(&mut self, _rig: &mut R) -> Result<bool, Failed> {
+        Ok(false)
     }
 
     fn seal<R: Rig>(self, _rig: &mut R) -> Result<(), Failed> {

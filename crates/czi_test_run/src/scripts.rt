@@ -34,7 +34,7 @@ pub(crate) fn one_tile_rig(alloc: Global, failing: u64) -> Result<MemRig, AllocE
 }
 
 // Scripts, the status and what is said, how long the journal is then, and what `info` says.
-static SCRIPTS: [(&[u8], u8, &[u8], usize, &[u8]); 9] = [
+static SCRIPTS: [(&[u8], u8, &[u8], usize, &[u8]); 12] = [
     (SCRIPT, 0, REPLIES, 1, REMOVED),
     (
         b"remove dims=C0,X0:4,Y0:2\nmap\ncheck\n",
@@ -52,6 +52,27 @@ static SCRIPTS: [(&[u8], u8, &[u8], usize, &[u8]); 9] = [
     ),
     (b"", 0, b"", 0, ONE),
     (b"list\n", 0, TILE, 0, ONE),
+    (
+        b"region pixel=0 layer=1 x=0 y=0 w=4 h=2\nregion pixel=0 layer=1 x=2 y=1 w=3 h=2 plane=C0\n",
+        0,
+        b"P5\n4 2\n255\nABCDEFGHP5\n3 2\n255\nGH\0\0\0\0",
+        0,
+        ONE,
+    ),
+    (
+        b"region pixel=1 layer=1 x=0 y=0 w=4 h=2\nregion pixel=0 layer=1 x=0 y=0 w=16385 h=16385\n",
+        0,
+        b"no mixed 0\nno long 268468225 268435456\n",
+        0,
+        ONE,
+    ),
+    (
+        b"region pixel=0 layer=1 x=0 y=0 w=4 h=1\nremove dims=C0,X0:4,Y0:2\nregion pixel=0 layer=1 x=0 y=0 w=4 h=1\n",
+        0,
+        b"P5\n4 1\n255\nABCDok 1\nP5\n4 1\n255\n\0\0\0\0",
+        1,
+        REMOVED,
+    ),
     (b"undo\n", 3, b"script 1 later\n", 0, ONE),
     (b"list", 3, b"script 1 cut\n", 0, ONE),
     (

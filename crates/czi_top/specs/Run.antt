@@ -1,5 +1,5 @@
 -- What a run of the program does.
-use Rattle.std.specs.Prelude.{◌≡◌, ◌≢◌, ◌⊎◌, ◌==◌, ℕ, ◌^◌, ◌≤◌, List, [], ◌∷◌, ◌++◌, length, take, codes, Option, None, Some, option_map, if◌then◌else◌}
+use Rattle.std.specs.Prelude.{◌≡◌, ◌⊎◌, ◌==◌, ℕ, ◌^◌, ◌≤◌, List, [], ◌∷◌, ◌++◌, length, take, codes, Option, None, Some, option_map, if◌then◌else◌}
 use Rattle.czi_rig.specs.State.{State}
 use Rattle.czi_rig.specs.declared.rig.Rig.{Ghosts}
 use Rattle.czi_rig.specs.Faults.{Device, image, journal, output, input}
@@ -118,7 +118,7 @@ MayBeUnopened status = (status ≡ 4) ⊎ (status ≡ 5) ⊎ (status ≡ 8)
 -- A query opens the files, and then leaves them alone until the reply is said; or the files didn't open.
 abbrev pub LooksOnly : {D : Type 0} → Ghosts D → D → D → Step → List ℕ → Begun → Ended → Type 0
 LooksOnly rig old new c said b ended = OpeningEnds the_machine (rig.state new) b said ended
-    ⊎ (OnlyReads rig old new the_machine said (the_machine.reply b c) b (the_machine.after b c) × (ended ≢ Stopped Image))
+    ⊎ (OnlyReads rig old new the_machine said (the_machine.reply b c) b (the_machine.after b c) × (ended ≡ Stopped Image → the_machine.looks b c))
 
 abbrev pub Looks : {D : Type 0} → Ghosts D → D → D → Action → List ℕ → Begun → Ended → Type 0
 Looks rig old new (query q) said b ended = LooksOnly rig old new (step q) said b ended

@@ -1,7 +1,7 @@
 use Rattle.std.proofs.Common.{inl, inr, ⊎_elim, ◌∷◌, []}
 use Rattle.czi_script.specs.View.{command_of}
 use Rattle.czi_session.proofs.Ending.{alike_more, one_unopened, runs}
-use Rattle.czi_session.proofs.Stops.{stopped_no_image, unopened_alone}
+use Rattle.czi_session.proofs.Stops.{stopped_looks, unopened_alone}
 use Rattle.czi_rig.proofs.Faults.{faults_then}
 use Rattle.czi_session.proofs.top.one_alone.Goals as goal
 
@@ -68,7 +68,7 @@ pub returns-in-Err-single-clause-reads : goal.returns-in-Err-single-clause-reads
 returns-in-Err-single-clause-reads g c = λ said s h still.
     let o = c.in-Ok.ensures.opens said s h in
     let so = c.in-Err-single.ensures.still said s o.1 still in
-    inr (record { opened = c.opened.new.rig; opening = o.0; replying = so.0 }, stopped_no_image c.in-Err-single.stop so.1)
+    inr (record { opened = c.opened.new.rig; opening = o.0; replying = so.0 }, stopped_looks c.in-Err-single.stop so.1)
 
 pub returns-in-Ok-single-clause-reads : goal.returns-in-Ok-single-clause-reads
 returns-in-Ok-single-clause-reads g c = λ said s h still.

@@ -4,7 +4,7 @@ use Rattle.czi_rig.proofs.Runs.{joined, started, weaker}
 use Rattle.czi_rig.proofs.Spans.{one_span, spans_then}
 use Rattle.czi_script.specs.View.{command_of}
 use Rattle.czi_session.proofs.Ending.{one_within, one_sealed, one_ends}
-use Rattle.czi_session.proofs.Stops.{image_is_file, sealed_alone, sealed_no_image}
+use Rattle.czi_session.proofs.Stops.{image_looks, sealed_alone, sealed_no_image}
 use Rattle.czi_session.proofs.top.single.Goals as goal
 
 pub returns-in-Ok-clause-moments : goal.returns-in-Ok-clause-moments
@@ -26,7 +26,7 @@ returns-in-Ok-clause-ends g c = λ said s h.
 pub returns-in-Ok-clause-still : goal.returns-in-Ok-clause-still
 returns-in-Ok-clause-still g c = λ said s h still. (
   record { replied = c.step.new.rig; replying = (c.in-Ok.ensures.still said s h still).0; sealing = c.sealed.ensures.moments _ _ (c.in-Ok.ensures.ok said s h) },
-  sealed_no_image c.sealed.result c.sealed.ensures.only,
+  λ is. absurd (sealed_no_image c.sealed.result c.sealed.ensures.only is),
 )
 
 pub returns-in-Ok-clause-alone : goal.returns-in-Ok-clause-alone
@@ -38,7 +38,7 @@ returns-in-Ok-clause-cause g c = faults_then _ _ _ _ c.in-Ok.ensures.cause c.sea
 pub returns-in-Err-clause-still : goal.returns-in-Err-clause-still
 returns-in-Err-clause-still g c = λ said s h still.
     let so = c.in-Err.ensures.still said s h still in
-    (record { replied = c.step.new.rig; replying = so.0; sealing = started g.R.Rig c.step.new.rig _ }, image_is_file c.in-Err.stop so.1)
+    (record { replied = c.step.new.rig; replying = so.0; sealing = started g.R.Rig c.step.new.rig _ }, image_looks c.in-Err.stop so.1)
 
 pub returns-in-Err-clause-moments : goal.returns-in-Err-clause-moments
 returns-in-Err-clause-moments g c = λ said s h.
