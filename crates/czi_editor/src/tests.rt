@@ -129,11 +129,10 @@ fn an_editor_is_opened_and_closed(rt: HostRuntime) -> Result<(), Fail> {
     let Ok(mut editor) = opened else {
         return Err(Fail::new("not opened"));
     };
-    let mut reply = Vec::new(alloc);
-    let Ok(()) = editor.perform(&mut rig, &Command::List, &mut reply) else {
+    let Ok(()) = editor.perform(&mut rig, &Command::List) else {
         return Err(Fail::new("not listed"));
     };
-    assert!(rt; reply.as_slice() == b"tiles 0\n".as_slice());
+    assert!(rt; editor.piece() == b"tiles 0\n".as_slice());
     let sealed = editor.seal(&mut rig);
     assert!(rt; sealed.is_ok() && rig.content(File::Image) == image.as_slice());
     Ok(())

@@ -1,10 +1,12 @@
 use Rattle.std.proofs.Common.{◌≡◌, inl, inr, ⊎_elim, rules, length, ap}
 use Rattle.czi_rig.specs.declared.file.File.TheVariants as file
-use Rattle.czi_rig.proofs.Known.{known_seen}
+use Rattle.czi_rig.specs.Faults.{Faults}
+use Rattle.czi_rig.proofs.Known.{goes_then, known_seen}
 use Rattle.czi_engine.specs.Creating.{create_device}
+use Rattle.czi_session.specs.Stops.{end_device}
 use Rattle.czi_session.proofs.Ending.{from_weaker}
 use Rattle.czi_top.specs.Creates.{created}
-use Rattle.czi_top.proofs.Made.{done_ends, done_moments, kept_creates, refuse_ends, refuse_moments}
+use Rattle.czi_top.proofs.Made.{create_answers, done_ends, done_moments, kept_creates, refuse_ends, refuse_moments}
 use Rattle.czi_top.proofs.creating.create.Goals as goal
 use Rattle.czi_top.proofs.creating.create.Goals.{in-Ok, in-Err-NotEmpty, in-Err-Memory, in-Err-ImageDevice, in-Err-JournalDevice}
 
@@ -47,3 +49,23 @@ returns-clause-moments g c = λ all is.
       | in-Err-ImageDevice w ↦ rw (w.rig-is, w.result-is) (⊎_elim (λ nothing. inl (nothing, tt)) (λ from. inr (from_weaker rig (λ i j o p. inl p) from)) (rw w.in-Err-ImageDevice.field-0-is at w.in-Err-ImageDevice.ensures.moments all is))
       | in-Err-JournalDevice w ↦ rw (w.rig-is, w.result-is) (⊎_elim (λ nothing. inl (nothing, tt)) (λ from. inr (from_weaker rig (λ i j o p. inl p) from)) (rw w.in-Err-JournalDevice.field-0-is at w.in-Err-JournalDevice.ensures.moments all is))
     ]
+
+pub returns-clause-goes_on : goal.returns-clause-goes_on
+returns-clause-goes_on g c =
+    let old = g.R.Rig.state c.args.rig.now in
+    let mid = g.R.Rig.state c.create.new.rig in
+    let went = c.create.ensures.goes_on in
+    elim c.match-create.branch [
+      | in-Ok w ↦ rw w.rig-is (goes_then old mid (g.R.Rig.state w.end_saying.new.rig) went w.end_saying.ensures.goes_on)
+      | in-Err-NotEmpty w ↦ rw w.rig-is (goes_then old mid (g.R.Rig.state w.refuse.new.rig) went w.refuse.ensures.goes_on)
+      | in-Err-Memory w ↦ rw w.rig-is went
+      | in-Err-ImageDevice w ↦ rw w.rig-is went
+      | in-Err-JournalDevice w ↦ rw w.rig-is went
+    ]
+
+pub returns-clause-answers : goal.returns-clause-answers
+returns-clause-answers g c = λ all is quiet.
+    let old = g.R.Rig.state c.args.rig.now in
+    let new = g.R.Rig.state c.match-create.rig in
+    let cause : Faults (end_device c.match-create.result) old new = search rules in
+    create_answers c.args.guid.now all old new c.match-create.result (returns-clause-ends g c all is) cause quiet
