@@ -81,7 +81,7 @@ pub fn written_is_read()
 /// header, the directory, and nothing else.
 pub fn empty_is_shown()
     ensures long { (guid : List ℕ) → length guid ≡ 16 → length (empty_image guid) ≡ EMPTY_LEN }
-    ensures guid { (guid : List ℕ) → length guid ≡ 16 → bytes_at (empty_image guid) 64 16 ≡ guid }
+    ensures guid { (guid : List ℕ) → length guid ≡ 16 → bytes_at (empty_image guid) FILE_GUID 16 ≡ guid }
     ensures shows { (guid : List ℕ) → length guid ≡ 16 → Shows (empty_image guid) (empty_document guid) × (update_pending (empty_image guid) ≡ pos 0) }
     ensures layout { (guid : List ℕ) → length guid ≡ 16 → HasLayout (empty_image guid) empty_layout }
     ensures steady { (guid : List ℕ) → length guid ≡ 16 → IsSteady (empty_image guid) }
