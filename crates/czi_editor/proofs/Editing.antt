@@ -1,9 +1,9 @@
--- An edit, as a session takes it.
+-- A command that goes on, as a session takes it.
 use Rattle.std.proofs.Common.{◌≡◌, ◌⊎◌, ⊎_elim, ℕ, List, Option, None, Some, IfSome, Result, Ok, Err, OnOk, refl, sym, ap, arith, ◌∙◌, subst}
 use Rattle.std.specs.Prelude.{IsFalse, IsTrue, ◌≤◌}
 use Rattle.std.proofs.lemmas.Option.{none-some, same_Some}
-use Rattle.czi_machine.specs.Edit.{Edit, Refusal}
-use Rattle.czi_machine.specs.Machine.{after_edit, one_more}
+use Rattle.czi_machine.specs.Edit.{Refusal}
+use Rattle.czi_machine.specs.Machine.{one_more}
 use Rattle.czi_machine.specs.State.{State as MachineState}
 use Rattle.czi_rig.specs.declared.file.File.TheVariants.{Image, Journal}
 use Rattle.czi_rig.specs.State.{State, SameAll, SameFiles, known}
@@ -17,39 +17,37 @@ use Rattle.czi_rig.proofs.Known.{known_file, known_said, known_seen, same_known,
 use Rattle.czi_script.specs.Script.{Command}
 use Rattle.czi_session.specs.Course.{EitherSide, Stands}
 use Rattle.czi_session.proofs.Spoken.{resting_alike}
-use Rattle.czi_engine.specs.Devices.{edit_device}
-use Rattle.czi_engine.specs.Editing.{Accepts, Alike, AsBefore, DuringEdit, is_device, or_before, origin_after, refusal_of, state_after}
-use Rattle.czi_engine.specs.declared.error.EditError.{EditError}
-use Rattle.czi_engine.specs.declared.error.EditError.TheVariants.{TooLong, NoKey, Duplicate, TooMany, Full, Memory, ImageDevice, JournalDevice}
+use Rattle.czi_engine.specs.Devices.{Fault, of_refusal, of_memory, of_device, device_in, is_device, refusal_in}
+use Rattle.czi_engine.specs.Editing.{Accepts, Alike, AsBefore, DuringEdit, Goes, or_before, origin_after, state_by}
 use Rattle.czi_engine.specs.Standing.{HasState, StandsOnRig}
 use Rattle.czi_engine.specs.declared.engine.Engine.{Engine}
 use Rattle.czi_engine.proofs.Same.{same_has, same_stands}
 use Rattle.czi_editor.specs.Laws.{rests_now_of, stays_ready_of}
 use Rattle.czi_editor.specs.Machine.{AtState, Begun, IsReady, the_machine}
-use Rattle.czi_editor.specs.Replies.{Asked, after_asked, asked, edit_reply, edits, origin_asked, reply, reply_asked}
+use Rattle.czi_editor.specs.Replies.{Asked, after_asked, asked, edit_reply, leads, origin_asked, reply, reply_asked}
 use Rattle.czi_report.specs.Replies.{no_line, ok_line}
 
 -- the state of a run after what was asked
 then_asked : Begun → Asked → Begun
 then_asked b a = record { start = origin_asked b.start b.state a; journal = b.journal; state = after_asked b.state a }
 
--- a command that asks for an edit leads where the edit does
-pub leads_there : (b : Begun) (c : Command) (e : Edit) → asked c ≡ edits e → record { start = origin_after b.start (after_edit b.state e); journal = b.journal; state = state_after b.state e } ≡ the_machine.after b c
+-- such a command leads where it goes
+pub leads_there : (b : Begun) (c : Command) (go : Goes) → asked c ≡ leads go → record { start = origin_after b.start (go b.state); journal = b.journal; state = state_by go b.state } ≡ the_machine.after b c
 unfolding then_asked
-leads_there b c e asks = ap (then_asked b) (sym asks)
+leads_there b c go asks = ap (then_asked b) (sym asks)
 
-pub sides : (b : Begun) (c : Command) (e : Edit) → asked c ≡ edits e → (before start : List ℕ) → before ≡ start → (image journal said : List ℕ) → DuringEdit b.start b.state (λ s. after_edit s e) before image journal said
+pub sides : (b : Begun) (c : Command) (go : Goes) → asked c ≡ leads go → (before start : List ℕ) → before ≡ start → (image journal said : List ℕ) → DuringEdit b.start b.state go before image journal said
     → EitherSide the_machine b c start image journal said
-sides b c e asks before start same image journal said d =
+sides b c go asks before start same image journal said d =
     let there : Begun → Type 0 = λ t. (the_machine.opens image journal b × the_machine.alone image b) ⊎ (the_machine.opens image journal t × (the_machine.alone image b ⊎ the_machine.alone image t)) in
-    (subst there (leads_there b c e asks) d.0, d.1 ∙ same)
+    (subst there (leads_there b c go asks) d.0, d.1 ∙ same)
 
 one_or_more : (n : ℕ) → 1 ≤ one_more n
 one_or_more n = grind arith
 
-module _ (x y : Engine) (old new : State) (said : List ℕ) (b : Begun) (e : Edit) (h : Stands the_machine (AtState x) old said b) where
-  pub accepted_stands : (n : ℕ) → Accepts (λ s. after_edit s e) b.start b.state new y.state n → StandsOnRig new y.state → IsTrue y.state.journal.armed → GoesOn old new → new.said ≡ old.said
-      → Stands the_machine (AtState y) new said (record { start = origin_after b.start (after_edit b.state e); journal = b.journal; state = state_after b.state e })
+module _ (x y : Engine) (old new : State) (said : List ℕ) (b : Begun) (go : Goes) (h : Stands the_machine (AtState x) old said b) where
+  pub accepted_stands : (n : ℕ) → Accepts go b.start b.state new y.state n → StandsOnRig new y.state → IsTrue y.state.journal.armed → GoesOn old new → new.said ≡ old.said
+      → Stands the_machine (AtState y) new said (record { start = origin_after b.start (go b.state); journal = b.journal; state = state_by go b.state })
   accepted_stands n a on armed goes same =
       let image = told_after old new Image h.now.image goes (known_file old Image h.now h.known) in
       let journal = told_after old new Journal h.now.journal goes (known_file old Journal h.now h.known) in
@@ -63,7 +61,7 @@ module _ (x y : Engine) (old new : State) (said : List ℕ) (b : Begun) (e : Edi
           rest = on.image image.0 image.1;
           itself = on.itself now is;
           holds = everywhere_weaker journal.0 (λ j counts.
-              let some : 1 ≤ (or_before b.state (after_edit b.state e)).number = subst (λ (r : Result MachineState Refusal). 1 ≤ (or_before b.state r).number) (sym a.goes) (omega (arith, one_or_more b.state.number, a.counted, a.numbered)) in
+              let some : 1 ≤ (or_before b.state (go b.state)).number = subst (λ (r : Result MachineState Refusal). 1 ≤ (or_before b.state r).number) (sym a.goes) (omega (arith, one_or_more b.state.number, a.counted, a.numbered)) in
               record { unedited = λ none. absurd (omega (arith, none, some)); edited = λ one. counts_armed y.state.journal.armed y.state.journal.selected j armed counts }) (on.armed journal.0 journal.1);
           live = a.live;
           has = subst (λ (r : Result MachineState Refusal). HasState (origin_after b.start r) image.0.seen a.live (or_before b.state r) y.state) (sym a.goes) (a.has image.0.seen (known_seen new Image now is));
@@ -79,15 +77,15 @@ module _ (x y : Engine) (old new : State) (said : List ℕ) (b : Begun) (e : Edi
     stands = record { rest = h.stands.rest; itself = h.stands.itself; holds = h.stands.holds; live = h.stands.live; has = same_has x.state y.state engine b.start h.now.image.seen h.stands.live b.state h.stands.has };
   }
 
-  pub refused_stands : (r : Refusal) → after_edit b.state e ≡ Err r → AsBefore x.state y.state → SameAll old new → Stands the_machine (AtState y) new said (record { start = origin_after b.start (after_edit b.state e); journal = b.journal; state = state_after b.state e })
+  pub refused_stands : (r : Refusal) → go b.state ≡ Err r → AsBefore x.state y.state → SameAll old new → Stands the_machine (AtState y) new said (record { start = origin_after b.start (go b.state); journal = b.journal; state = state_by go b.state })
   refused_stands r refused engine same = subst (λ (a : Result MachineState Refusal). Stands the_machine (AtState y) new said (record { start = origin_after b.start a; journal = b.journal; state = or_before b.state a })) (sym refused) (kept_stands engine same)
 
--- the reply to a command that asks for an edit
-pub ok_is : (s t : MachineState) (c : Command) (e : Edit) → asked c ≡ edits e → (n : ℕ) → after_edit s e ≡ Ok t → n ≡ t.number → ok_line n ≡ reply s c
-ok_is s t c e asks n goes number = ap ok_line number ∙ (ap edit_reply (sym goes) ∙ ap (reply_asked s) (sym asks))
+-- the reply to it
+pub ok_is : (s t : MachineState) (c : Command) (go : Goes) → asked c ≡ leads go → (n : ℕ) → go s ≡ Ok t → n ≡ t.number → ok_line n ≡ reply s c
+ok_is s t c go asks n goes number = ap ok_line number ∙ (ap edit_reply (sym goes) ∙ ap (reply_asked s) (sym asks))
 
-pub no_is : (s : MachineState) (c : Command) (e : Edit) → asked c ≡ edits e → (r : Refusal) → after_edit s e ≡ Err r → no_line r ≡ reply s c
-no_is s c e asks r refused = ap edit_reply (sym refused) ∙ ap (reply_asked s) (sym asks)
+pub no_is : (s : MachineState) (c : Command) (go : Goes) → asked c ≡ leads go → (r : Refusal) → go s ≡ Err r → no_line r ≡ reply s c
+no_is s c go asks r refused = ap edit_reply (sym refused) ∙ ap (reply_asked s) (sym asks)
 
 -- a property of what is there
 pub if_some : {A : Type 0} (o : Option A) (x : A) (P : A → Type 0) → o ≡ Some x → IfSome o P → P x
@@ -95,26 +93,16 @@ if_some None x P is all = absurd (none-some x is)
 if_some (Some a) x P is all = subst P (same_Some a x is) all
 
 -- a refusal isn't a fault of a device
-pub no_device : (error : EditError) (r : Refusal) → refusal_of error ≡ Some r → IsFalse (is_device error)
-no_device (TooLong n limit) r is = refl
-no_device NoKey r is = refl
-no_device (Duplicate place) r is = refl
-no_device (TooMany count) r is = refl
-no_device (Full need length) r is = refl
-no_device Memory r is = refl
-no_device ImageDevice r is = absurd (none-some r is)
-no_device JournalDevice r is = absurd (none-some r is)
+pub no_device : (fault : Fault) (r : Refusal) → refusal_in fault ≡ Some r → IsFalse (is_device fault)
+no_device (of_refusal refusal) r is = refl
+no_device of_memory r is = refl
+no_device (of_device device) r is = absurd (none-some r is)
 
 -- nor is what the machine refuses, or want of memory
-pub told_no_device : (error : EditError) (r : Refusal) → (refusal_of error ≡ Some r) ⊎ (error ≡ Memory) → edit_device error ≡ None
-told_no_device (TooLong n limit) r told = refl
-told_no_device NoKey r told = refl
-told_no_device (Duplicate place) r told = refl
-told_no_device (TooMany count) r told = refl
-told_no_device (Full need length) r told = refl
-told_no_device Memory r told = refl
-told_no_device ImageDevice r told = absurd (⊎_elim (λ is. none-some r is) (λ is. cc) told)
-told_no_device JournalDevice r told = absurd (⊎_elim (λ is. none-some r is) (λ is. cc) told)
+pub told_no_device : (fault : Fault) (r : Refusal) → (fault ≡ of_refusal r) ⊎ (fault ≡ of_memory) → device_in fault ≡ None
+told_no_device (of_refusal refusal) r told = refl
+told_no_device of_memory r told = refl
+told_no_device (of_device device) r told = absurd (⊎_elim (λ is. cc) (λ is. cc) told)
 
 -- a device that is as it was altogether
 pub same_all : {D : Type 0} (rig : Ghosts D) {old new : D} → new ≡ old → SameAll (rig.state old) (rig.state new)

@@ -17,13 +17,14 @@ use Rattle.czi_session.specs.Course.{EitherSide, Stands}
 use Rattle.czi_session.specs.Stops.{editor_device}
 use Rattle.czi_session.specs.declared.stop.EditorStop.{EditorStop}
 use Rattle.czi_session.specs.declared.stop.EditorStop.TheVariants.{Memory}
-use Rattle.czi_engine.specs.Edited.{Edits}
-use Rattle.czi_engine.specs.Editing.{Accepts, refusal_of}
+use Rattle.czi_engine.specs.Devices.{Fault, edit_fault, refusal_in}
+use Rattle.czi_engine.specs.Edited.{Commands, Edits}
+use Rattle.czi_engine.specs.Editing.{Accepts, Goes}
 use Rattle.czi_engine.specs.declared.engine.Engine.{Engine}
 use Rattle.czi_engine.specs.declared.error.EditError.{EditError}
 use Rattle.czi_editor.specs.Machine.{AtState, Begun, IsReady, the_machine}
 use Rattle.czi_editor.specs.Performs.{AtEach, IsReplied, Performs}
-use Rattle.czi_editor.specs.Replies.{asked, edits, reply, still_asked}
+use Rattle.czi_editor.specs.Replies.{asked, edits, leads, reply, still_asked}
 use Rattle.czi_editor.proofs.Editing.{accepted_stands, both_ok, if_some, leads_there, no_device, no_is, ok_is, refused_ready, refused_stands, same_all, sides, told_no_device, unasked_alike}
 
 -- no call was made, since memory for the reply is wanting
@@ -50,20 +51,20 @@ always_ok : {T E : Type 0} {P : Type 0} (r : Result T E) → P → OnOk r P
 always_ok (Ok t) p = p
 always_ok (Err e) p = tt
 
-module _ {D : Type 0} (rig : Ghosts D) (c : Command) (e : Edit) (asks : asked c ≡ edits e) (before after : D) (x y : Engine) (old new : List ℕ) (result : Result (Unit {0}) EditorStop) (ready : IsReady x (rig.state before)) where
+module _ {D E : Type 0} (tells : E → Fault) (rig : Ghosts D) (c : Command) (go : Goes) (asks : asked c ≡ leads go) (before after : D) (x y : Engine) (old new : List ℕ) (result : Result (Unit {0}) EditorStop) (ready : IsReady x (rig.state before)) where
   -- the edit was accepted
-  accepted : (n : ℕ) → Edits rig (λ s. after_edit s e) before after x.state y.state (Ok n) → IsReplied (Ok n) old new result → Performs rig c before after x y old new result
+  accepted : (n : ℕ) → Commands tells rig go before after x.state y.state (Ok n) → IsReplied tells (Ok n) old new result → Performs rig c before after x y old new result
   accepted n done replies =
-      let taken : (said : List ℕ) (b : Begun) (h : Stands the_machine (AtState x) (rig.state before) said b) → Accepts (λ s. after_edit s e) b.start b.state (rig.state after) y.state n
+      let taken : (said : List ℕ) (b : Begun) (h : Stands the_machine (AtState x) (rig.state before) said b) → Accepts go b.start b.state (rig.state after) y.state n
       = λ said b h. done.accepted h.now.image.seen (known_seen (rig.state before) Image h.now h.known) b.start h.stands.live b.state h.stands.has in
       record {
-        moments = λ said b h. weaker rig (sides b c e asks h.now.said said h.said_is) (done.moments h.now h.known b.start h.stands.live b.state h.stands.has);
+        moments = λ said b h. weaker rig (sides b c go asks h.now.said said h.said_is) (done.moments h.now h.known b.start h.stands.live b.state h.stands.has);
         alike = λ said b h. done.alike h.now h.known b.start h.stands.live b.state h.stands.has;
         replied = always_ok result (λ said b h.
             let a = taken said b h in
-            replies.accepted.1 ∙ ap (λ (z : List ℕ). old ++ z) (ok_is b.state a.state c e asks n a.goes a.numbered));
-        stands = always_ok result (λ said b h. subst (λ (t : Begun). Stands the_machine (AtState y) (rig.state after) said t) (leads_there b c e asks)
-            (accepted_stands x y (rig.state before) (rig.state after) said b e h n (taken said b h) done.stands done.armed done.goes_on done.said));
+            replies.accepted.1 ∙ ap (λ (z : List ℕ). old ++ z) (ok_is b.state a.state c go asks n a.goes a.numbered));
+        stands = always_ok result (λ said b h. subst (λ (t : Begun). Stands the_machine (AtState y) (rig.state after) said t) (leads_there b c go asks)
+            (accepted_stands x y (rig.state before) (rig.state after) said b go h n (taken said b h) done.stands done.armed done.goes_on done.said));
         ready = always_ok result (record { stands = done.stands; up = done.up });
         said = done.said;
         goes_on = done.goes_on;
@@ -75,41 +76,46 @@ module _ {D : Type 0} (rig : Ghosts D) (c : Command) (e : Edit) (asks : asked c 
       }
 
   -- it was refused, or failed
-  refused : (error : EditError) → Edits rig (λ s. after_edit s e) before after x.state y.state (Err error) → IsReplied (Err error) old new result → Performs rig c before after x y old new result
+  refused : (error : E) → Commands tells rig go before after x.state y.state (Err error) → IsReplied tells (Err error) old new result → Performs rig c before after x y old new result
   refused error done replies =
-      let told : (r : Refusal) → refusal_of error ≡ Some r → (said : List ℕ) (b : Begun) (h : Stands the_machine (AtState x) (rig.state before) said b) → after_edit b.state e ≡ Err r
-      = λ r is said b h. if_some (refusal_of error) r (λ (z : Refusal). after_edit b.state e ≡ Err z) is (done.refused h.now.image.seen (known_seen (rig.state before) Image h.now h.known) b.start h.stands.live b.state h.stands.has) in
+      let told : (r : Refusal) → refusal_in (tells error) ≡ Some r → (said : List ℕ) (b : Begun) (h : Stands the_machine (AtState x) (rig.state before) said b) → go b.state ≡ Err r
+      = λ r is said b h. if_some (refusal_in (tells error)) r (λ (z : Refusal). go b.state ≡ Err z) is (done.refused h.now.image.seen (known_seen (rig.state before) Image h.now h.known) b.start h.stands.live b.state h.stands.has) in
       record {
-        moments = λ said b h. weaker rig (sides b c e asks h.now.said said h.said_is) (done.moments h.now h.known b.start h.stands.live b.state h.stands.has);
+        moments = λ said b h. weaker rig (sides b c go asks h.now.said said h.said_is) (done.moments h.now h.known b.start h.stands.live b.state h.stands.has);
         alike = λ said b h. done.alike h.now h.known b.start h.stands.live b.state h.stands.has;
-        replied = on_ok_weaker result (λ r said b h. r.2 ∙ ap (λ (z : List ℕ). old ++ z) (no_is b.state c e asks r.0 (told r.0 r.1 said b h))) replies.refused;
+        replied = on_ok_weaker result (λ r said b h. r.2 ∙ ap (λ (z : List ℕ). old ++ z) (no_is b.state c go asks r.0 (told r.0 r.1 said b h))) replies.refused;
         stands = on_ok_weaker result (λ r said b h.
-            let kept = done.quiet (no_device error r.0 r.1) in
-            subst (λ (t : Begun). Stands the_machine (AtState y) (rig.state after) said t) (leads_there b c e asks)
-            (refused_stands x y (rig.state before) (rig.state after) said b e h r.0 (told r.0 r.1 said b h) kept.1 (same_all rig kept.0))) replies.refused;
+            let kept = done.quiet (no_device (tells error) r.0 r.1) in
+            subst (λ (t : Begun). Stands the_machine (AtState y) (rig.state after) said t) (leads_there b c go asks)
+            (refused_stands x y (rig.state before) (rig.state after) said b go h r.0 (told r.0 r.1 said b h) kept.1 (same_all rig kept.0))) replies.refused;
         ready = on_ok_weaker result (λ r.
-            let kept = done.quiet (no_device error r.0 r.1) in
+            let kept = done.quiet (no_device (tells error) r.0 r.1) in
             let same = same_all rig kept.0 in
             refused_ready x y (rig.state before) (rig.state after) ready kept.1 (record { image = same.image; journal = same.journal }) done.goes_on) replies.refused;
         said = done.said;
         goes_on = done.goes_on;
         still = λ said b h none.
             let refused = subst (still_asked b.state) asks none in
-            let off = told_no_device error refused.0 (done.refuses h.now.image.seen (known_seen (rig.state before) Image h.now h.known) b.start h.stands.live b.state h.stands.has refused.0 refused.1) in
+            let off = told_no_device (tells error) refused.0 (done.refuses h.now.image.seen (known_seen (rig.state before) Image h.now h.known) b.start h.stands.live b.state h.stands.has refused.0 refused.1) in
             (replies.device ∙ off, (done.quiet (ap is_some off)).0);
         starved = λ memory. (done.quiet (ap is_some (sym replies.device ∙ ap (fault_at editor_device) memory))).0;
         cause = subst (λ (at : Option Device). Faults at (rig.state before) (rig.state after)) (sym replies.device) done.cause;
       }
 
-  done_as : (answer : Result ℕ EditError) → Edits rig (λ s. after_edit s e) before after x.state y.state answer → IsReplied answer old new result → Performs rig c before after x y old new result
+  done_as : (answer : Result ℕ E) → Commands tells rig go before after x.state y.state answer → IsReplied tells answer old new result → Performs rig c before after x y old new result
   done_as (Ok n) done replies = accepted n done replies
   done_as (Err error) done replies = refused error done replies
 
--- A command that asks for an edit is performed where the engine did that, and what it answered was appended to what was there.
+-- A command that goes on is performed where the engine did that, and what it answered was appended to what was there.
+pub performed_by : {D E : Type 0} (tells : E → Fault) {rig : Ghosts D} {c : Command} {before after : D} {x y : Engine} {old held new : List ℕ} {answer : Result ℕ E} {result : Result (Unit {0}) EditorStop} (go : Goes) → asked c ≡ leads go
+    → IsReady x (rig.state before) → Commands tells rig go before after x.state y.state answer → held ≡ old → IsReplied tells answer held new result → Performs rig c before after x y old new result
+performed_by tells {rig = rig} {c = c} {before = before} {after = after} {x = x} {y = y} {old = old} {new = new} {answer = answer} {result = result} go asks ready done kept replies =
+    done_as tells rig c go asks before after x y old new result ready answer done (subst (λ (z : List ℕ). IsReplied tells answer z new result) kept replies)
+
+-- so is an edit
 pub performed : {D : Type 0} {rig : Ghosts D} {c : Command} {before after : D} {x y : Engine} {old held new : List ℕ} {answer : Result ℕ EditError} {result : Result (Unit {0}) EditorStop} (e : Edit) → asked c ≡ edits e
-    → IsReady x (rig.state before) → Edits rig (λ s. after_edit s e) before after x.state y.state answer → held ≡ old → IsReplied answer held new result → Performs rig c before after x y old new result
-performed {rig = rig} {c = c} {before = before} {after = after} {x = x} {y = y} {old = old} {new = new} {answer = answer} {result = result} e asks ready done kept replies =
-    done_as rig c e asks before after x y old new result ready answer done (subst (λ (z : List ℕ). IsReplied answer z new result) kept replies)
+    → IsReady x (rig.state before) → Edits rig (λ s. after_edit s e) before after x.state y.state answer → held ≡ old → IsReplied edit_fault answer held new result → Performs rig c before after x y old new result
+performed e asks ready done kept replies = performed_by edit_fault (λ s. after_edit s e) asks ready done kept replies
 
 -- After Ok the reply was appended, and the engine stands at the state after the command.
 pub performed_ok : {D : Type 0} {rig : Ghosts D} {c : Command} {before after : D} {x y : Engine} {old new : List ℕ} {result : Result (Unit {0}) EditorStop} → Performs rig c before after x y old new result

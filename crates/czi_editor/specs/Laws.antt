@@ -33,7 +33,7 @@ use Rattle.czi_engine.specs.Stands.{StandsOn}
 use Rattle.czi_engine.proofs.Keeping.{has_opens, one_alike, shows_alone}
 use Rattle.czi_session.specs.Course.{Rests, Unsealed}
 use Rattle.czi_editor.specs.Machine.{AtState, Begins, Begun, HoldsAt, IsReady, IsRefused, the_machine}
-use Rattle.czi_editor.specs.Replies.{Asked, asked, edits, tells, edit_reply, reply, reply_asked}
+use Rattle.czi_editor.specs.Replies.{Asked, asked, leads, tells, edit_reply, reply, reply_asked}
 
 -- files of a state, of which every pair that a crash leaves stands for the image, rest at it
 pub rests_at : (b : Begun) (image journal : Disk) (live : Live) → IsAtRest image → IsItself image journal → StandsOn b.start.bytes image.seen live b.state → KeepsItems b.start image.seen b.state.layout
@@ -107,7 +107,7 @@ region_some (Some (short_data place)) q subblocks = zero-lt-suc _
 
 -- what tells something of the state is never empty
 TellsSome : Asked → Type 0
-TellsSome (edits e) = Unit {0}
+TellsSome (leads go) = Unit {0}
 TellsSome (tells text) = (s : MachineState) → 0 < length (text s)
 
 tells_some : (c : Command) → TellsSome (asked c)
@@ -128,7 +128,7 @@ tells_some (Past len limit) = λ s. no_some (too_long_edit len limit)
 
 says_some : (s : MachineState) (a : Asked) → TellsSome a → 0 < length (reply_asked s a)
 unfolding TellsSome
-says_some s (edits e) some = edit_some (after_edit s e)
+says_some s (leads go) some = edit_some (go s)
 says_some s (tells text) some = some s
 
 -- no reply is empty

@@ -1,4 +1,4 @@
--- What every command keeps to, whatever it is, and what an edit's answer replies.
+-- What every command keeps to, whatever it is, and what its answer replies.
 use Rattle.std.specs.Prelude.{◌≡◌, ℕ, List, ◌++◌, None, Some, Result, Ok, Err, IfOk, IfErr, OnOk}
 use Rattle.czi_machine.specs.Edit.{Refusal}
 use Rattle.czi_rig.specs.declared.rig.Rig.{Ghosts}
@@ -12,10 +12,8 @@ use Rattle.czi_session.specs.Course.{EitherSide, Stands}
 use Rattle.czi_session.specs.Stops.{editor_device}
 use Rattle.czi_session.specs.declared.stop.EditorStop.{EditorStop}
 use Rattle.czi_session.specs.declared.stop.EditorStop.TheVariants.{Memory}
-use Rattle.czi_engine.specs.Devices.{edit_device}
-use Rattle.czi_engine.specs.Editing.{refusal_of}
+use Rattle.czi_engine.specs.Devices.{Fault, device_in, refusal_in}
 use Rattle.czi_engine.specs.declared.engine.Engine.{Engine}
-use Rattle.czi_engine.specs.declared.error.EditError.{EditError}
 use Rattle.czi_report.specs.Replies.{no_line, ok_line}
 use Rattle.czi_editor.specs.Machine.{AtState, Begun, IsReady, the_machine}
 use Rattle.czi_editor.specs.Replies.{reply, still}
@@ -42,9 +40,9 @@ pub record Performs {D : Type 0} (rig : Ghosts D) (c : Command) (before after : 
   pub starved : result ≡ Err Memory → after ≡ before
   pub cause : Faults (fault_at editor_device result) (rig.state before) (rig.state after)
 
--- What an edit answered was replied: the line of its number was appended, or that of its refusal, unless memory is wanting. A fault
--- of a device and want of memory are no refusals: they stop the run.
-pub record IsReplied (answer : Result ℕ EditError) (old new : List ℕ) (result : Result (Unit {0}) EditorStop) : Type 0 where
+-- What a command answered was replied: the line of its number was appended, or that of its refusal, unless memory is wanting. A
+-- fault of a device and want of memory are no refusals: they stop the run.
+pub record IsReplied {E : Type 0} (tells : E → Fault) (answer : Result ℕ E) (old new : List ℕ) (result : Result (Unit {0}) EditorStop) : Type 0 where
   pub accepted : IfOk answer (λ n. (result ≡ Ok tt) × (new ≡ old ++ ok_line n))
-  pub refused : IfErr answer (λ error. OnOk result ((refusal : Refusal) × (refusal_of error ≡ Some refusal) × (new ≡ old ++ no_line refusal)))
-  pub device : fault_at editor_device result ≡ fault_at edit_device answer
+  pub refused : IfErr answer (λ error. OnOk result ((refusal : Refusal) × (refusal_in (tells error) ≡ Some refusal) × (new ≡ old ++ no_line refusal)))
+  pub device : fault_at editor_device result ≡ fault_at (λ error. device_in (tells error)) answer

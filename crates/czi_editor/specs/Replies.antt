@@ -1,6 +1,6 @@
 -- What a command makes of the machine's state, and its reply.
 use Rattle.std.specs.Prelude.{◌≡◌, ℕ, List, None, Result, Ok, Err}
-use Rattle.czi_engine.specs.Editing.{origin_after, state_after}
+use Rattle.czi_engine.specs.Editing.{Goes, origin_by, state_by}
 use Rattle.czi_engine.specs.Standing.{Origin}
 use Rattle.czi_machine.specs.Edit.{Edit, Refusal, add, attach, detach, reattach, remove, replace, set_meta, too_long}
 use Rattle.czi_machine.specs.Machine.{after_edit}
@@ -12,10 +12,13 @@ use Rattle.czi_format.specs.PaintRefusals.{region_refusal}
 use Rattle.czi_editor.specs.Regions.{region_reply}
 use Rattle.czi_script.specs.Script.{Command, Add, Replace, Remove, Attach, Reattach, Detach, SetMeta, Region, Listing, Info, Map, Check, Past}
 
--- What a command asks of the machine: an edit, or to be told something of the state.
+-- What a command asks of the machine: to go on to another state, or to be told something of the one that there is.
 pub data Asked : Type 0 where
-  edits : Edit → Asked
+  leads : Goes → Asked
   tells : (State → List ℕ) → Asked
+
+abbrev pub edits : Edit → Asked
+edits e = leads (λ s. after_edit s e)
 
 abbrev pub asked : Command → Asked
 asked (Add info meta pixels tail) = edits (add (record { info = info; meta = meta; pixels = pixels; tail = tail }))
@@ -32,27 +35,27 @@ asked Map = tells map_of
 asked Check = tells (λ s. check_of s.layout)
 asked (Past len limit) = tells (λ s. no_line (too_long len limit))
 
--- the reply to an edit
+-- the reply to a command that goes on, or is refused
 abbrev pub edit_reply : Result State Refusal → List ℕ
 edit_reply (Ok s) = ok_line s.number
 edit_reply (Err refusal) = no_line refusal
 
 -- the state after what was asked, the items that have been there since the start, and the reply
 abbrev pub after_asked : State → Asked → State
-after_asked s (edits e) = state_after s e
+after_asked s (leads go) = state_by go s
 after_asked s (tells text) = s
 
 abbrev pub origin_asked : Origin → State → Asked → Origin
-origin_asked o s (edits e) = origin_after o (after_edit s e)
+origin_asked o s (leads go) = origin_by go o s
 origin_asked o s (tells text) = o
 
 abbrev pub reply_asked : State → Asked → List ℕ
-reply_asked s (edits e) = edit_reply (after_edit s e)
+reply_asked s (leads go) = edit_reply (go s)
 reply_asked s (tells text) = text s
 
--- to be told something changes nothing, and neither does an edit that the machine refuses
+-- to be told something changes nothing, and neither does what the machine refuses
 abbrev pub still_asked : State → Asked → Type 0
-still_asked s (edits e) = (refusal : Refusal) × (after_edit s e ≡ Err refusal)
+still_asked s (leads go) = (refusal : Refusal) × (go s ≡ Err refusal)
 still_asked s (tells text) = Unit {0}
 
 -- the state after a command of a script
@@ -67,7 +70,7 @@ origin_then o s c = origin_asked o s (asked c)
 abbrev pub reply : State → Command → List ℕ
 reply s c = reply_asked s (asked c)
 
--- a query, or an edit that the machine refuses
+-- a query, or a command that the machine refuses
 abbrev pub still : State → Command → Type 0
 still s c = still_asked s (asked c)
 

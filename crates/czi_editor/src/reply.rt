@@ -4,8 +4,7 @@ ghost use Rattle.std.specs.Prelude.{◌≡◌, ◌+◌, ◌≤◌, ◌++◌, Som
 ghost use Rattle.czi_machine.specs.Edit.{Refusal};
 ghost use Rattle.czi_rig.specs.Faults.{fault_at};
 ghost use Rattle.czi_session.specs.Stops.{editor_device};
-ghost use Rattle.czi_engine.specs.Devices.{edit_device};
-ghost use Rattle.czi_engine.specs.Editing.{refusal_of};
+ghost use Rattle.czi_engine.specs.Devices.{edit_device, edit_fault, refusal_of};
 ghost use Rattle.czi_report.specs.Replies.{no_line};
 ghost use Rattle.czi_editor.specs.Performs.{IsReplied};
 
@@ -58,7 +57,7 @@ pub(crate) fn push_answer(
     reply: &mut Vec<u8>,
 ) -> Result<(), EditorStop>
     requires room { vec_len reply.old + LONGEST_REPLY ≤ vec_capacity reply.old }
-    ensures { IsReplied answer reply.old.items reply.new.items result }
+    ensures { IsReplied edit_fault answer reply.old.items reply.new.items result }
 {
     match answer {
         Ok(number) => match push_ok(number, reply) {

@@ -8,7 +8,7 @@ use Rattle.czi_commit.specs.Filled.{AreFree, filled}
 use Rattle.czi_format.specs.Live.{Live}
 use Rattle.czi_image.specs.Applied.{IsChanged, IsSame}
 use Rattle.czi_image.specs.declared.index.Index.{Index}
-use Rattle.czi_machine.specs.Edit.{Refusal, too_long, no_key, duplicate, too_many, full}
+use Rattle.czi_machine.specs.Edit.{Refusal}
 use Rattle.czi_machine.specs.Machine.{one_more}
 use Rattle.czi_machine.specs.State.{State as MachineState}
 use Rattle.czi_machine.specs.LiveChange.{changed_live}
@@ -33,17 +33,18 @@ use Rattle.czi_vault.specs.Alone.{HasBytes, KeepsOr}
 use Rattle.czi_vault.specs.Puts.{ranges}
 use Rattle.czi_vault.specs.Recovered.{Recovered, StandsNow, StandsOr, View}
 use Rattle.czi_rig.specs.Faults.{Faults}
-use Rattle.czi_engine.specs.Devices.{edit_device}
-use Rattle.czi_engine.specs.Edited.{Edits, OnFiles, OnImage}
-use Rattle.czi_engine.specs.Editing.{Accepts, Alike, AsBefore, DuringEdit, Goes, RefusesEdit, is_device, refusal_of}
+use Rattle.czi_vault.specs.Devices.{vault_device}
+use Rattle.czi_vault.specs.declared.committing.VaultFault.{VaultFault}
+use Rattle.czi_vault.specs.declared.committing.VaultFault.TheVariants as Vault
+use Rattle.czi_engine.specs.Devices.{Fault, of_refusal, of_memory, of_device, device_in, edit_fault, is_device}
+use Rattle.czi_engine.specs.Edited.{Commands, OnFiles, OnImage}
+use Rattle.czi_engine.specs.Editing.{Accepts, Alike, AsBefore, DuringEdit, Goes, Refuses, error_of}
 use Rattle.czi_engine.specs.Holes.{AreHigh, view_of}
 use Rattle.czi_engine.specs.Prepared.{IsPrepared}
 use Rattle.czi_undo.specs.declared.inverse.Inverse.{Inverse}
 use Rattle.czi_engine.specs.Standing.{FewKept, HasItsMap, HasSome, HasState, IsItself, Origin, StandsOnRig, origin_in}
 use Rattle.czi_engine.specs.declared.engine.Engine.{Engine}
 use Rattle.czi_engine.specs.declared.engine.EngineState.{EngineState}
-use Rattle.czi_engine.specs.declared.error.EditError.{EditError}
-use Rattle.czi_engine.specs.declared.error.EditError.TheVariants.{TooLong, NoKey, Duplicate, TooMany, Full, Memory, ImageDevice, JournalDevice}
 use Rattle.czi_engine.proofs.Going.{has_next, high, kept_next, leaves_100, made_by, stands_next, touches, turn, writes_free}
 use Rattle.czi_engine.proofs.Keeping.{rests_stands, during_edit, one_alike}
 use Rattle.czi_engine.proofs.Same.{same_has}
@@ -140,52 +141,46 @@ module _ (x : Engine) (y : EngineState) (go : Goes) (kept : List Inverse) (p : I
         few = subst FewKept (sym edits) p.few;
       }
 
--- an error of a device is no refusal
-device_refuses : (go : Goes) (s : MachineState) (error : EditError) → IsTrue (is_device error) → RefusesEdit go s error
-device_refuses go s (TooLong n limit) is = absurd (true≢false (sym is))
-device_refuses go s NoKey is = absurd (true≢false (sym is))
-device_refuses go s (Duplicate place) is = absurd (true≢false (sym is))
-device_refuses go s (TooMany count) is = absurd (true≢false (sym is))
-device_refuses go s (Full need n) is = absurd (true≢false (sym is))
-device_refuses go s Memory is = absurd (true≢false (sym is))
-device_refuses go s ImageDevice is = tt
-device_refuses go s JournalDevice is = tt
+-- a device's fault is no refusal
+device_refuses : (go : Goes) (s : MachineState) (fault : Fault) → IsTrue (is_device fault) → Refuses go s fault
+device_refuses go s (of_refusal refusal) is = absurd (true≢false (sym is))
+device_refuses go s of_memory is = absurd (true≢false (sym is))
+device_refuses go s (of_device device) is = tt
 
 -- and a refusal leaves no doubt
-refused_is : (go : Goes) (s : MachineState) (error : EditError) (refusal : Refusal) → IsFalse (is_device error) → RefusesEdit go s error → go s ≡ Err refusal → (refusal_of error ≡ Some refusal) ⊎ (error ≡ Memory)
-refused_is go s (TooLong n limit) refusal off refuses goes = inl (let same : too_long n limit ≡ refusal = cc (refuses, goes) in ap Some same)
-refused_is go s NoKey refusal off refuses goes = inl (let same : no_key ≡ refusal = cc (refuses, goes) in ap Some same)
-refused_is go s (Duplicate place) refusal off refuses goes = inl (let same : duplicate place ≡ refusal = cc (refuses, goes) in ap Some same)
-refused_is go s (TooMany count) refusal off refuses goes = inl (let same : too_many count ≡ refusal = cc (refuses, goes) in ap Some same)
-refused_is go s (Full need n) refusal off refuses goes = inl (let same : full need n ≡ refusal = cc (refuses, goes) in ap Some same)
-refused_is go s Memory refusal off refuses goes = inr refl
-refused_is go s ImageDevice refusal off refuses goes = absurd (true≢false off)
-refused_is go s JournalDevice refusal off refuses goes = absurd (true≢false off)
+refused_is : (go : Goes) (s : MachineState) (fault : Fault) (refusal : Refusal) → IsFalse (is_device fault) → Refuses go s fault → go s ≡ Err refusal → (fault ≡ of_refusal refusal) ⊎ (fault ≡ of_memory)
+refused_is go s (of_refusal told) refusal off refuses goes = inl (let same : told ≡ refusal = cc (refuses, goes) in ap of_refusal same)
+refused_is go s of_memory refusal off refuses goes = inr refl
+refused_is go s (of_device device) refusal off refuses goes = absurd (true≢false off)
 
 no_fault : (s : State) → Faults None s s
 no_fault s = record { image_count = refl; journal_count = refl; output_count = refl }
 
-no_cause : (s : State) (error : EditError) → IsFalse (is_device error) → Faults (edit_device error) s s
-no_cause s (TooLong n limit) off = no_fault s
-no_cause s NoKey off = no_fault s
-no_cause s (Duplicate place) off = no_fault s
-no_cause s (TooMany count) off = no_fault s
-no_cause s (Full need n) off = no_fault s
-no_cause s Memory off = no_fault s
-no_cause s ImageDevice off = absurd (true≢false off)
-no_cause s JournalDevice off = absurd (true≢false off)
+no_cause : (s : State) (fault : Fault) → IsFalse (is_device fault) → Faults (device_in fault) s s
+no_cause s (of_refusal refusal) off = no_fault s
+no_cause s of_memory off = no_fault s
+no_cause s (of_device device) off = absurd (true≢false off)
+
+-- a fault of a file is one of a device, that of the file
+pub failed_device : (fault : VaultFault) → is_device (edit_fault (error_of fault)) ≡ true
+failed_device Vault.Image = refl
+failed_device Vault.Journal = refl
+
+pub failed_at_device : (fault : VaultFault) → vault_device fault ≡ device_in (edit_fault (error_of fault))
+failed_at_device Vault.Image = refl
+failed_at_device Vault.Journal = refl
 
 not_both : (go : Goes) (s s' : MachineState) (refusal : Refusal) → go s ≡ Ok s' → go s ≡ Err refusal → ⊥
 not_both go s s' refusal goes refused = cc (goes, refused)
 
-module _ {D : Type 0} (rig : Ghosts D) (old new : D) (x : Engine) (go : Goes) (kept : List Inverse) (p : IsPrepared go x kept) (on : StandsOnRig (rig.state old) x.state) (carried : Carried rig x old new) (only : OnlyNow rig)
+module _ {D E : Type 0} (tells : E → Fault) (rig : Ghosts D) (old new : D) (x : Engine) (go : Goes) (kept : List Inverse) (p : IsPrepared go x kept) (on : StandsOnRig (rig.state old) x.state) (carried : Carried rig x old new) (only : OnlyNow rig)
     (said : (rig.state new).said ≡ (rig.state old).said) (goes_on : GoesOn (rig.state old) (rig.state new)) where
   -- the plan was carried out and taken over
   pub edited_ok : (y : EngineState) → IsChanged x.scratch.plan.change y.index.extents.items x.scratch.plan.length x.state.index y.index → map span_of y.index.extents.items ≡ extents_after x.scratch.plan x.state.map.extents
       → HasItsMap y → y.edits ≡ kept → y.number ≡ one_more x.state.number → IsFalse y.down
       → known (rig.state new) Image ≡ option_map (λ (disk : Disk). at_rest (made_by x disk.seen)) (known (rig.state old) Image)
       → ForSome (devices (rig.state old)) (λ all. ForSome (devices (rig.state new)) (λ now. (image j said : List ℕ) → LeavesNow now image j said → Recovered image j (made_by x all.image.seen)))
-      → ForSome (known (rig.state new) Journal) (Everywhere (IsJournal y.journal)) → y.journal.armed ≡ true → Faults None (rig.state old) (rig.state new) → Edits rig go old new x.state y (Ok y.number)
+      → ForSome (known (rig.state new) Journal) (Everywhere (IsJournal y.journal)) → y.journal.armed ≡ true → Faults None (rig.state old) (rig.state new) → Commands tells rig go old new x.state y (Ok y.number)
   edited_ok y index extents map_is edits number up image committed journal armed cause =
       record {
         moments = moments rig old new x go kept p on carried;
@@ -204,7 +199,7 @@ module _ {D : Type 0} (rig : Ghosts D) (old new : D) (x : Engine) (go : Goes) (k
       }
 
   -- a device failed
-  pub edited_err : (y : EngineState) (error : EditError) → IsTrue (is_device error) → IsTrue y.down → Faults (edit_device error) (rig.state old) (rig.state new) → Edits rig go old new x.state y (Err error)
+  pub edited_err : (y : EngineState) (error : E) → IsTrue (is_device (tells error)) → IsTrue y.down → Faults (device_in (tells error)) (rig.state old) (rig.state new) → Commands tells rig go old new x.state y (Err error)
   edited_err y error device down cause = record {
     moments = moments rig old new x go kept p on carried;
     alike = alike rig old new x go kept p on carried only;
@@ -212,7 +207,7 @@ module _ {D : Type 0} (rig : Ghosts D) (old new : D) (x : Engine) (go : Goes) (k
     stands = tt;
     up = tt;
     armed = tt;
-    refused = λ bytes seen o live s has. device_refuses go s error device;
+    refused = λ bytes seen o live s has. device_refuses go s (tells error) device;
     refuses = λ bytes seen o live s has refusal refused. absurd (let by = p.means o bytes live s has in not_both go s by.state refusal by.goes refused);
     quiet = λ off. absurd (true≢false (sym device ∙ off));
     down = down ∙ sym device;
@@ -222,9 +217,9 @@ module _ {D : Type 0} (rig : Ghosts D) (old new : D) (x : Engine) (go : Goes) (k
   }
 
 -- nothing was asked of a device
-pub edited_none : {D : Type 0} (rig : Ghosts D) (r : D) (only : OnlyNow rig) (itself : ForSome (devices (rig.state r)) (λ all. IsItself all.image all.journal)) (x y : EngineState) (go : Goes) (error : EditError) → IsFalse x.down → IsFalse (is_device error) → AsBefore x y
-    → ((o : Origin) (bytes : List ℕ) (live : Live) (s : MachineState) → HasState o bytes live s x → RefusesEdit go s error) → Edits rig go r r x y (Err error)
-edited_none rig r only itself x y go error up off same refuses = record {
+pub edited_none : {D E : Type 0} (tells : E → Fault) (rig : Ghosts D) (r : D) (only : OnlyNow rig) (itself : ForSome (devices (rig.state r)) (λ all. IsItself all.image all.journal)) (x y : EngineState) (go : Goes) (error : E) → IsFalse x.down → IsFalse (is_device (tells error)) → AsBefore x y
+    → ((o : Origin) (bytes : List ℕ) (live : Live) (s : MachineState) → HasState o bytes live s x → Refuses go s (tells error)) → Commands tells rig go r r x y (Err error)
+edited_none tells rig r only itself x y go error up off same refuses = record {
   moments = λ all is o live s has. started rig r (DuringEdit o s go all.said);
   alike = λ all is o live s has. each_two rig Alike (λ i j said i' j' said' one two. one_alike all.image.seen i j i' j' one two)
       (during rig all only is (started rig r (λ i j said. Recovered i j all.image.seen)) (λ i j said l. itself all is i j l.image_is l.journal_is));
@@ -233,12 +228,12 @@ edited_none rig r only itself x y go error up off same refuses = record {
   up = tt;
   armed = tt;
   refused = λ bytes seen o live s has. refuses o bytes live s has;
-  refuses = λ bytes seen o live s has refusal refused. refused_is go s error refusal off (refuses o bytes live s has) refused;
+  refuses = λ bytes seen o live s has refusal refused. refused_is go s (tells error) refusal off (refuses o bytes live s has) refused;
   quiet = λ none. (refl, same);
   down = same.down ∙ (up ∙ sym off);
   said = refl;
   goes_on = (untouched_here rig r).goes_on;
-  cause = no_cause (rig.state r) error off;
+  cause = no_cause (rig.state r) (tells error) off;
 }
 
 same_index : (a b c : Index) → IsSame a b → IsSame b c → IsSame a c
@@ -266,8 +261,8 @@ before_then a b c p q = record {
 }
 
 -- what an edit keeps to, told by an engine that was as this one
-pub edited_from : {D : Type 0} (rig : Ghosts D) (old new : D) (x z y : EngineState) (go : Goes) (number : ℕ) → AsBefore x z → Edits rig go old new z y (Ok number) → Edits rig go old new x y (Ok number)
-edited_from rig old new x z y go number same e = record {
+pub edited_from : {D E : Type 0} (tells : E → Fault) (rig : Ghosts D) (old new : D) (x z y : EngineState) (go : Goes) (number : ℕ) → AsBefore x z → Commands tells rig go old new z y (Ok number) → Commands tells rig go old new x y (Ok number)
+edited_from tells rig old new x z y go number same e = record {
   moments = λ all is o live s has. e.moments all is o live s (same_has x z same o all.image.seen live s has);
   alike = λ all is o live s has. e.alike all is o live s (same_has x z same o all.image.seen live s has);
   accepted = λ bytes seen o live s has. e.accepted bytes seen o live s (same_has x z same o bytes live s has);
@@ -283,8 +278,8 @@ edited_from rig old new x z y go number same e = record {
   cause = e.cause;
 }
 
-pub edited_from_err : {D : Type 0} (rig : Ghosts D) (old new : D) (x z y : EngineState) (go : Goes) (error : EditError) → AsBefore x z → Edits rig go old new z y (Err error) → Edits rig go old new x y (Err error)
-edited_from_err rig old new x z y go error same e = record {
+pub edited_from_err : {D E : Type 0} (tells : E → Fault) (rig : Ghosts D) (old new : D) (x z y : EngineState) (go : Goes) (error : E) → AsBefore x z → Commands tells rig go old new z y (Err error) → Commands tells rig go old new x y (Err error)
+edited_from_err tells rig old new x z y go error same e = record {
   moments = λ all is o live s has. e.moments all is o live s (same_has x z same o all.image.seen live s has);
   alike = λ all is o live s has. e.alike all is o live s (same_has x z same o all.image.seen live s has);
   accepted = tt;
@@ -300,6 +295,6 @@ edited_from_err rig old new x z y go error same e = record {
   cause = e.cause;
 }
 
-pub edited_as : {D : Type 0} (rig : Ghosts D) (old new : D) (x z y : EngineState) (go : Goes) (result : Result ℕ EditError) → AsBefore x z → Edits rig go old new z y result → Edits rig go old new x y result
-edited_as rig old new x z y go (Ok number) same e = edited_from rig old new x z y go number same e
-edited_as rig old new x z y go (Err error) same e = edited_from_err rig old new x z y go error same e
+pub edited_as : {D E : Type 0} (tells : E → Fault) (rig : Ghosts D) (old new : D) (x z y : EngineState) (go : Goes) (result : Result ℕ E) → AsBefore x z → Commands tells rig go old new z y result → Commands tells rig go old new x y result
+edited_as tells rig old new x z y go (Ok number) same e = edited_from tells rig old new x z y go number same e
+edited_as tells rig old new x z y go (Err error) same e = edited_from_err tells rig old new x z y go error same e

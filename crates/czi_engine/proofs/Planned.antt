@@ -36,7 +36,8 @@ use Rattle.czi_plan.specs.Plan.{IsPlan}
 use Rattle.czi_plan.specs.Search.{attachment_with, tile_with}
 use Rattle.czi_plan.specs.declared.plan.PlanFault.{PlanFault}
 use Rattle.czi_plan.specs.declared.plan.PlanFault.TheVariants.{Full as NoPlaceIn, Memory as NoMemory}
-use Rattle.czi_engine.specs.Editing.{AsBefore, Goes, RefusesEdit, is_device, refusal_of, unplanned}
+use Rattle.czi_engine.specs.Devices.{Fault, of_refusal, of_memory, of_device, edit_fault, is_device, refusal_in, refusal_of}
+use Rattle.czi_engine.specs.Editing.{AsBefore, Goes, Refuses, unplanned}
 use Rattle.czi_engine.specs.Limits.{TellsNew, attachment_pieces, first_past_limit, metadata_pieces, subblock_pieces}
 use Rattle.czi_undo.specs.Holding.{holds_of}
 use Rattle.czi_undo.specs.Laws.{LiesBefore}
@@ -293,33 +294,28 @@ plan_means x c task inverse own undoes leads plan does o' bytes live s has =
 
 -- where there is no plan the machine refuses the edit, or memory was wanting
 pub no_place_for : (x : EngineState) (c : Edit) (e : DocumentEffect) (fault : PlanFault) → HasItsMap x → Means x c (Ok e) → HasNoPlan x.index x.map e fault
-    → (o : Origin) (bytes : List ℕ) (live : Live) (s : State) → HasState o bytes live s x → RefusesEdit (λ s. after_edit s c) s (unplanned fault)
+    → (o : Origin) (bytes : List ℕ) (live : Live) (s : State) → HasState o bytes live s x → Refuses (λ s. after_edit s c) s (edit_fault (unplanned fault))
 no_place_for x c e NoMemory own leads none o bytes live s has = tt
 no_place_for x c e (NoPlaceIn need n) own leads none o bytes live s has =
     ap (λ r. r >>= after_effect s) (leads o bytes live s has) ∙ full_in_order s e (record { need = need; length = n }) (none bytes live s (lies_in o bytes live s x has own))
 
-no_device : (error : EditError) (r : Refusal) → refusal_of error ≡ Some r → IsFalse (is_device error)
-no_device (edits.TooLong n limit) r is = refl
-no_device edits.NoKey r is = refl
-no_device (edits.Duplicate i) r is = refl
-no_device (edits.TooMany n) r is = refl
-no_device (edits.Full need n) r is = refl
-no_device edits.Memory r is = refl
-no_device edits.ImageDevice r is = absurd (cc (is))
-no_device edits.JournalDevice r is = absurd (cc (is))
+no_device : (fault : Fault) (r : Refusal) → refusal_in fault ≡ Some r → IsFalse (is_device fault)
+no_device (of_refusal refusal) r is = refl
+no_device of_memory r is = refl
+no_device (of_device device) r is = absurd (cc (is))
 
-unplanned_device : (f : PlanFault) → IsFalse (is_device (unplanned f))
+unplanned_device : (f : PlanFault) → IsFalse (is_device (edit_fault (unplanned f)))
 unplanned_device NoMemory = refl
 unplanned_device (NoPlaceIn need n) = refl
 
 -- an error with which an edit isn't prepared
-unprepared : (go : Goes) (x y : Engine) (r : Result Inverse EditError) (error : EditError) → AsBefore x.state y.state → IsFalse (is_device error)
-    → ((o : Origin) (bytes : List ℕ) (live : Live) (s : State) → HasState o bytes live s x.state → RefusesEdit go s error) → IsErrAnd r (λ e. e ≡ error) → Prepares go x y r
+unprepared : (go : Goes) (x y : Engine) (r : Result Inverse EditError) (error : EditError) → AsBefore x.state y.state → IsFalse (is_device (edit_fault error))
+    → ((o : Origin) (bytes : List ℕ) (live : Live) (s : State) → HasState o bytes live s x.state → Refuses go s (edit_fault error)) → IsErrAnd r (λ e. e ≡ error) → Prepares go x y r
 unprepared go x y (Ok inverse) error was device refuses none = absurd none
 unprepared go x y (Err e) error was device refuses is = record {
   same = was;
   ready = tt;
-  refusal = subst (λ (z : EditError). IsFalse (is_device z) × ((o : Origin) (bytes : List ℕ) (live : Live) (s : State) → HasState o bytes live s x.state → RefusesEdit go s z)) (sym is) (device, refuses);
+  refusal = subst (λ (z : EditError). IsFalse (is_device (edit_fault z)) × ((o : Origin) (bytes : List ℕ) (live : Live) (s : State) → HasState o bytes live s x.state → Refuses go s (edit_fault z))) (sym is) (device, refuses);
 }
 
 -- there is no plan
@@ -330,5 +326,5 @@ no_plan x y c e r fault was own leads none is = unprepared (λ s. after_edit s c
 -- the edit is refused before it is planned
 pub refused : (x : Engine) (c : Edit) (r : Result Inverse EditError) (error : EditError) (refusal : Refusal) → refusal_of error ≡ Some refusal → Means x.state c (Err refusal) → IsErrAnd r (λ z. z ≡ error) → Prepares (λ s. after_edit s c) x x r
 refused x c r error refusal tells is same =
-    unprepared (λ s. after_edit s c) x x r error (before_here x.state) (no_device error refusal tells)
+    unprepared (λ s. after_edit s c) x x r error (before_here x.state) (no_device (edit_fault error) refusal tells)
     (λ o bytes live s has. subst (λ (z : Option Refusal). IfSome z (λ w. after_edit s c ≡ Err w)) (sym tells) (ap (λ z. z >>= after_effect s) (is o bytes live s has))) same

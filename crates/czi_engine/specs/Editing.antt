@@ -1,11 +1,11 @@
 -- What a command makes of an engine's state, and what an edit answers.
-use Rattle.std.specs.Prelude.{◌≡◌, ◌⊎◌, ℕ, List, Bool, Option, None, Some, IfSome, is_some, Result, Ok, Err, IsErrAnd}
+use Rattle.std.specs.Prelude.{◌≡◌, ◌⊎◌, ℕ, List, IfSome, Result, Ok, Err, IsErrAnd}
 use Rattle.std.specs.Option.{ForSome}
 use Rattle.czi_format.specs.Document.{Document}
 use Rattle.czi_format.specs.Layout.{Layout, HasLayout}
 use Rattle.czi_format.specs.Live.{Live}
 use Rattle.czi_image.specs.Applied.{IsSame}
-use Rattle.czi_machine.specs.Edit.{Edit, Refusal, too_long, no_key, duplicate, too_many, full}
+use Rattle.czi_machine.specs.Edit.{Edit, Refusal}
 use Rattle.czi_machine.specs.Headline.{NoWriteTouches}
 use Rattle.czi_machine.specs.Machine.{after_edit, one_more}
 use Rattle.czi_machine.specs.State.{State as MachineState}
@@ -20,10 +20,12 @@ use Rattle.czi_vault.specs.declared.committing.VaultFault.{VaultFault}
 use Rattle.czi_vault.specs.declared.committing.VaultFault.TheVariants.{Image as ImageFails, Journal as JournalFails}
 use Rattle.czi_engine.specs.Stands.{OpensAs, ShowsWhole}
 use Rattle.czi_engine.specs.Standing.{HasState, KeepsItems, Origin, origin_in}
-use Rattle.czi_engine.specs.Devices.{edit_device}
+use Rattle.czi_engine.specs.Devices.{Fault, of_device, of_memory, of_refusal, refusal_in}
 use Rattle.czi_engine.specs.declared.engine.EngineState.{EngineState}
 use Rattle.czi_engine.specs.declared.error.EditError.{EditError}
-use Rattle.czi_engine.specs.declared.error.EditError.TheVariants.{TooLong, NoKey, Duplicate, TooMany, Full, Memory, ImageDevice, JournalDevice}
+use Rattle.czi_engine.specs.declared.error.EditError.TheVariants.{Full, Memory, ImageDevice, JournalDevice}
+use Rattle.czi_engine.specs.declared.error.UndoError.{UndoError}
+use Rattle.czi_engine.specs.declared.error.UndoError.TheVariants.{ImageDevice as UndoImage, JournalDevice as UndoJournal}
 
 -- what a command makes of a state, or why it is refused
 abbrev pub Goes : Type 0
@@ -76,23 +78,13 @@ pub record Accepts (go : Goes) (o : Origin) (s : MachineState) (rig : State) (x 
   pub live : Live
   pub has : ForSome (seen_of rig Image) (λ bytes. HasState (origin_in o state) bytes live state x)
 
--- what the machine refuses; the other errors tell nothing of it
-abbrev pub refusal_of : EditError → Option Refusal
-refusal_of (TooLong len limit) = Some (too_long len limit)
-refusal_of NoKey = Some no_key
-refusal_of (Duplicate place) = Some (duplicate place)
-refusal_of (TooMany count) = Some (too_many count)
-refusal_of (Full need length) = Some (full need length)
-refusal_of Memory = None
-refusal_of ImageDevice = None
-refusal_of JournalDevice = None
-
-abbrev pub RefusesEdit : Goes → MachineState → EditError → Type 0
-RefusesEdit go s error = IfSome (refusal_of error) (λ refusal. go s ≡ Err refusal)
+-- a refusal that a fault tells is the machine's
+abbrev pub Refuses : Goes → MachineState → Fault → Type 0
+Refuses go s fault = IfSome (refusal_in fault) (λ refusal. go s ≡ Err refusal)
 
 -- where the machine refuses, so does the answer, or memory is wanting
-abbrev pub RefusesToo : {T : Type 0} → Goes → MachineState → Result T EditError → Type 0
-RefusesToo go s result = (refusal : Refusal) → go s ≡ Err refusal → IsErrAnd result (λ error. (refusal_of error ≡ Some refusal) ⊎ (error ≡ Memory))
+abbrev pub RefusesToo : {T E : Type 0} → (E → Fault) → Goes → MachineState → Result T E → Type 0
+RefusesToo tells go s result = (refusal : Refusal) → go s ≡ Err refusal → IsErrAnd result (λ error. (tells error ≡ of_refusal refusal) ⊎ (tells error ≡ of_memory))
 
 -- why there is no plan, as an edit's error
 abbrev pub unplanned : PlanFault → EditError
@@ -104,9 +96,10 @@ abbrev pub error_of : VaultFault → EditError
 error_of ImageFails = ImageDevice
 error_of JournalFails = JournalDevice
 
--- it tells of a device
-abbrev pub is_device : EditError → Bool
-is_device error = is_some (edit_device error)
+-- and as an undo's
+abbrev pub undo_error_of : VaultFault → UndoError
+undo_error_of ImageFails = UndoImage
+undo_error_of JournalFails = UndoJournal
 
 -- an engine is as it was; only how much spare memory its lists have may differ
 pub record AsBefore (old new : EngineState) : Type 0 where

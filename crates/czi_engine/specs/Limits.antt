@@ -2,7 +2,7 @@
 use Rattle.std.specs.Prelude.{◌≡◌, ℕ, ◌^◌, ◌≤◌, List, [], ◌∷◌, Option, None, Some}
 use Rattle.std.specs.Option.{option_or}
 use Rattle.czi_machine.specs.Edit.{Refusal, fits}
-use Rattle.czi_engine.specs.Editing.{refusal_of}
+use Rattle.czi_engine.specs.Devices.{refusal_of}
 use Rattle.czi_engine.specs.declared.error.EditError.{EditError}
 use Rattle.czi_engine.specs.declared.error.EditError.TheVariants.{TooLong, NoKey, Duplicate, TooMany, Full, Memory, ImageDevice, JournalDevice}
 use Rattle.czi_format.specs.declared.numbers.TheConstants.{DATA_LIMIT, TEXT_LIMIT}

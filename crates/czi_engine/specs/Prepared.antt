@@ -13,7 +13,8 @@ use Rattle.czi_machine.specs.Written.{Wrote}
 use Rattle.czi_plan.specs.Does.{layout_by}
 use Rattle.czi_plan.specs.Pieces.{pieces_of}
 use Rattle.czi_plan.specs.Plan.{IsPlan}
-use Rattle.czi_engine.specs.Editing.{AsBefore, Goes, RefusesEdit, is_device}
+use Rattle.czi_engine.specs.Devices.{edit_fault, is_device}
+use Rattle.czi_engine.specs.Editing.{AsBefore, Goes, Refuses}
 use Rattle.czi_engine.specs.Moment.{BringsApart}
 use Rattle.czi_engine.specs.Standing.{BringBack, FewKept, HasState, HoldBack, Origin}
 use Rattle.czi_engine.specs.declared.engine.Engine.{Engine}
@@ -58,7 +59,7 @@ edits_after inverse x = inverse ∷ take 31 x.edits
 pub record Prepares (go : Goes) (old new : Engine) (prepared : Result Inverse EditError) : Type 0 where
   pub same : AsBefore old.state new.state
   pub ready : IfOk prepared (λ inverse. IsPrepared go new (edits_after inverse new.state))
-  pub refusal : IfErr prepared (λ error. IsFalse (is_device error) × ((o : Origin) (bytes : List ℕ) (live : Live) (s : MachineState) → HasState o bytes live s old.state → RefusesEdit go s error))
+  pub refusal : IfErr prepared (λ error. IsFalse (is_device (edit_fault error)) × ((o : Origin) (bytes : List ℕ) (live : Live) (s : MachineState) → HasState o bytes live s old.state → Refuses go s (edit_fault error)))
 
 -- all but the journal, its buffer and whether the engine is down is as it was
 pub record KeepsPlan (old new : Engine) : Type 0 where

@@ -1,6 +1,6 @@
 //! Taking a plan over into the engine, once it is committed. Its memory is taken before the first write.
 
-ghost use Rattle.std.specs.Prelude.{◌≡◌, ◌+◌, ◌≤◌, ◌∷◌, length, map, take, OnOk};
+ghost use Rattle.std.specs.Prelude.{◌≡◌, ◌+◌, ◌≤◌, ◌∷◌, length, map, take, IsFalse, OnOk};
 ghost use Rattle.czi_image.specs.Applied.{IsChanged};
 ghost use Rattle.czi_machine.specs.Machine.{one_more};
 ghost use Rattle.czi_num.specs.Span.{span_of};
@@ -80,7 +80,7 @@ impl Engine {
         Ok(())
     }
 
-    /// Takes the plan of an edit over, and what undoes it. It takes no memory.
+    /// Takes the plan of an edit over, and what undoes it. The engine is up again. It takes no memory.
     pub(crate) fn take_over(&mut self, inverse: Inverse)
         requires plan { IsPlan self.old.state.index self.old.state.map self.old.scratch.region self.old.scratch.plan }
         requires memory { HasMemory self.old }
@@ -94,7 +94,7 @@ impl Engine {
         ensures edits { self.new.state.edits ≡ edits_after inverse self.old.state }
         ensures number { self.new.state.number ≡ one_more self.old.state.number }
         ensures journal { self.new.state.journal ≡ self.old.state.journal }
-        ensures down { self.new.state.down ≡ self.old.state.down }
+        ensures up { IsFalse self.new.state.down }
     {
         let alloc = self.scratch.alloc;
         let plan = &mut self.scratch.plan;
@@ -105,5 +105,6 @@ impl Engine {
             .apply(change, self.state.map.extents(), plan.length);
         self.state.keep_inverse(inverse);
         self.state.number = self.state.number.saturating_add(1);
+        self.state.down = false;
     }
 }

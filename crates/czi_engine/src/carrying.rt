@@ -1,6 +1,6 @@
 //! Carrying a plan out on the files.
 
-ghost use Rattle.std.specs.Prelude.{◌≡◌, List, ℕ, slice_index, IfErr, OnOk, OnErr, IsTrue, IsFalse, option_map};
+ghost use Rattle.std.specs.Prelude.{◌≡◌, List, ℕ, slice_index, OnOk, IsTrue, IsFalse, option_map};
 ghost use Rattle.std.specs.Option.{ForSome};
 ghost use Rattle.czi_commit.specs.Filled.{AreFree, filled};
 ghost use Rattle.czi_commit.specs.Made.{made, step_of};
@@ -13,24 +13,22 @@ ghost use Rattle.czi_rig.specs.Faults.{Faults, fault_at};
 ghost use Rattle.czi_rig.specs.Passes.{GoesOn};
 ghost use Rattle.czi_rig.specs.Moments.{devices, Throughout, LeavesNow};
 ghost use Rattle.czi_vault.specs.Alone.{HasBytes, KeepsOr};
+ghost use Rattle.czi_vault.specs.Devices.{vault_device};
 ghost use Rattle.czi_vault.specs.Puts.{ranges};
 ghost use Rattle.czi_vault.specs.Recovered.{Recovered, StandsNow, View};
-ghost use Rattle.czi_engine.specs.Devices.{edit_device};
-ghost use Rattle.czi_engine.specs.Editing.{error_of, is_device};
 ghost use Rattle.czi_engine.specs.Prepared.{KeepsPlan};
 ghost use Rattle.czi_engine.specs.Standing.{StandsOnRig, file_of};
 ghost use Rattle.czi_format.specs.declared.numbers.TheConstants.{UPDATE_PENDING};
 
 use crate::engine::Engine;
-use crate::error::EditError;
 use czi_commit::carry_out;
 use czi_links::SlotHead;
 use czi_rig::{File, Rig};
 use czi_vault::VaultFault;
 
 impl Engine {
-    /// Carries the plan out. After a fault of a device the engine is down.
-    pub(crate) fn commit_prepared<R: Rig>(&mut self, rig: &mut R) -> Result<(), EditError>
+    /// Carries the plan out. The engine is down until the plan is taken over.
+    pub(crate) fn commit_prepared<R: Rig>(&mut self, rig: &mut R) -> Result<(), VaultFault>
         requires stands { StandsOnRig (R.state rig.old) self.old.state }
         requires up { IsFalse self.old.state.down }
         requires plan { IsPlan self.old.state.index self.old.state.map self.old.scratch.region self.old.scratch.plan }
@@ -44,40 +42,23 @@ impl Engine {
         ensures journal { OnOk result (ForSome (known (R.state rig.new) File.Journal) (Everywhere (IsJournal self.new.state.journal))) }
         ensures armed { OnOk result (IsTrue self.new.state.journal.armed) }
         ensures kept { KeepsPlan self.old self.new }
-        ensures up { OnOk result (IsFalse self.new.state.down) }
-        ensures down { OnErr result (IsTrue self.new.state.down) }
-        ensures device { IfErr result (λ error. IsTrue (is_device error)) }
+        ensures down { IsTrue self.new.state.down }
         ensures said { (R.state rig.new).said ≡ (R.state rig.old).said }
         ensures goes_on { GoesOn (R.state rig.old) (R.state rig.new) }
-        ensures cause { Faults (fault_at edit_device result) (R.state rig.old) (R.state rig.new) }
+        ensures cause { Faults (fault_at vault_device result) (R.state rig.old) (R.state rig.new) }
     {
         let file = SlotHead {
             guid: self.state.index.header.guid(),
             length: self.state.index.length,
         };
-        match carry_out(
+        self.state.down = true;
+        carry_out(
             rig,
             &mut self.state.journal,
             &file,
             &self.scratch.region,
             &self.scratch.plan,
             &mut self.scratch.slot,
-        ) {
-            Ok(()) => Ok(()),
-            Err(fault) => {
-                self.state.down = true;
-                Err(error_of(fault))
-            }
-        }
-    }
-}
-
-/// A fault of a device, as an edit's error.
-fn error_of(fault: VaultFault) -> EditError
-    ensures { result ≡ error_of fault }
-{
-    match fault {
-        VaultFault::Image => EditError::ImageDevice,
-        VaultFault::Journal => EditError::JournalDevice,
+        )
     }
 }

@@ -25,7 +25,7 @@ impl Engine {
                 self.take_over(inverse);
                 Ok(self.state.number)
             }
-            Err(error) => Err(error),
+            Err(fault) => Err(EditError::from(fault)),
         }
     }
 

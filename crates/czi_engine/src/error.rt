@@ -1,10 +1,11 @@
-//! Why an edit isn't done.
+//! Why an edit or an undo isn't done.
 
 ghost use Rattle.std.specs.Prelude.{◌≡◌};
 ghost use Rattle.czi_engine.specs.declared.error.EditError.TheVariants as edits;
-ghost use Rattle.czi_engine.specs.Editing.{unplanned};
+ghost use Rattle.czi_engine.specs.Editing.{error_of, undo_error_of, unplanned};
 
 use czi_plan::PlanFault;
+use czi_vault::VaultFault;
 use std::alloc::AllocError;
 use thiserror::Error;
 
@@ -62,6 +63,50 @@ impl From<PlanFault> for EditError {
         match fault {
             PlanFault::Full { need, length } => EditError::Full { need, length },
             PlanFault::Memory => EditError::Memory,
+        }
+    }
+}
+
+impl From<VaultFault> for EditError {
+    ghost from_gives = { λ fault e. e ≡ error_of fault };
+
+    fn from(fault: VaultFault) -> EditError {
+        match fault {
+            VaultFault::Image => EditError::ImageDevice,
+            VaultFault::Journal => EditError::JournalDevice,
+        }
+    }
+}
+
+/// Why an undo isn't done, in the order in which the causes are looked for. It takes no memory, and so none is wanting.
+#[derive(Clone, Copy, Debug, PartialEq, Eq, Error)]
+pub enum UndoError {
+    /// There is no edit that could be undone.
+    #[error("nothing to undo")]
+    Nothing,
+    /// The directory has to be written anew, and has no place: past the length it would end above 2^40.
+    #[error("no place for {need} bytes, at a length of {length}")]
+    Full {
+        /// How many bytes the segment needs.
+        need: u64,
+        /// The image's length without it, in bytes.
+        length: u64,
+    },
+    /// A call on the image failed.
+    #[error("a call on the image failed")]
+    ImageDevice,
+    /// A call on the journal failed.
+    #[error("a call on the journal failed")]
+    JournalDevice,
+}
+
+impl From<VaultFault> for UndoError {
+    ghost from_gives = { λ fault e. e ≡ undo_error_of fault };
+
+    fn from(fault: VaultFault) -> UndoError {
+        match fault {
+            VaultFault::Image => UndoError::ImageDevice,
+            VaultFault::Journal => UndoError::JournalDevice,
         }
     }
 }

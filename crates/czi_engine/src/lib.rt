@@ -22,7 +22,7 @@ mod undoing;
 pub use creating::CreateError;
 pub use czi_opening::{ImageRefusal, OpenError};
 pub use engine::Engine;
-pub use error::EditError;
+pub use error::{EditError, UndoError};
 
 /// What stands for the bytes of a state, outside the holes of the state, opens as the state.
 pub fn views_open()

@@ -1,7 +1,6 @@
 use Rattle.std.proofs.Common.{ap, sym, ◌∙◌}
 use Rattle.czi_machine.specs.Edit.{duplicate, full, no_key, too_long, too_many}
-use Rattle.czi_engine.specs.Devices.{edit_device}
-use Rattle.czi_engine.specs.Editing.{refusal_of}
+use Rattle.czi_engine.specs.Devices.{edit_device, refusal_of}
 use Rattle.czi_editor.proofs.reply.push_no.Goals.{in-TooLong, in-NoKey, in-Duplicate, in-TooMany, in-Full}
 use Rattle.czi_editor.proofs.reply.push_no.Goals as goal
 

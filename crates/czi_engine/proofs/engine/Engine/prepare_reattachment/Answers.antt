@@ -6,7 +6,7 @@ use Rattle.czi_machine.specs.Change.{put}
 use Rattle.czi_machine.specs.Edit.{in_attachments, no_key, reattach}
 use Rattle.czi_plan.specs.Attaching.{attachment_in}
 use Rattle.czi_plan.specs.Search.{attachment_with}
-use Rattle.czi_engine.specs.Editing.{refusal_of}
+use Rattle.czi_engine.specs.Devices.{refusal_of}
 use Rattle.czi_engine.specs.Limits.{attachment_pieces}
 use Rattle.czi_engine.proofs.Planned.{at_found, attachment_inside, limit_passes, limit_refuses, means_as, reattachment_means, refused, short_pieces}
 use Rattle.czi_engine.proofs.engine.Engine.prepare_reattachment.Goals as goal
