@@ -27,3 +27,4 @@ pub mod MetadataUndone
 pub mod Inverses
 pub mod Fitting
 pub mod Spared
+pub mod Found

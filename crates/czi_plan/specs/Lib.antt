@@ -15,3 +15,4 @@ pub mod Attaching
 pub mod Setting
 pub mod Need
 pub mod Undoing
+pub mod Fits

@@ -9,6 +9,7 @@ mod attachments;
 mod bringing;
 mod changing;
 mod directory;
+mod fits;
 mod freeing;
 mod inverse_plan;
 mod laws;
@@ -33,6 +34,7 @@ mod undoing;
 
 pub use adding::plan_add;
 pub use attaching::{plan_attach, plan_detach, plan_detach_at, plan_reattach, plan_reattach_at};
+pub use fits::inverse_fits;
 pub use freeing::update_map;
 pub use inverse_plan::plan_inverse;
 pub use laws::newest_fits;
