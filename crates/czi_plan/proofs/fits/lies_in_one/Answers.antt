@@ -1,8 +1,7 @@
-use Rattle.std.proofs.Common.{◌≡◌, ◌+◌, ◌<◌, ◌≤◌, nat_le, length, true, rules, arith, ap, subst}
+use Rattle.std.proofs.Common.{◌+◌, ◌<◌, nat_le, length, rules, arith}
 use Rattle.std.proofs.lemmas.Bool.{lt-ltb, ltb-true}
 use Rattle.std.specs.List.Sorted.{IsPartitionedBy}
 use Rattle.std.proofs.lemmas.List.Sorted.{IsPartitionPoint-from_clause}
-use Rattle.czi_format.specs.Span.{Span, end_of}
 use Rattle.czi_num.specs.declared.span.Span.{Span as CodeSpan}
 use Rattle.czi_num.specs.Span.{span_of}
 use Rattle.czi_spans.proofs.Apart.{ends_parted}
