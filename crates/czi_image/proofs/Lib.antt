@@ -13,3 +13,4 @@ pub mod Settled
 pub mod Changed
 pub mod Acting
 pub mod Summed
+pub mod Grown

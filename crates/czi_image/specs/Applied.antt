@@ -1,10 +1,11 @@
 -- An index after a change, and what it says of an image.
-use Rattle.std.specs.Prelude.{◌≡◌, ℕ, ◌+◌, ◌≤◌, ◌^◌, pos, List, map, length, Bool, ◌&&◌, nat_lt, ℤ, Option, Some, None, if◌then◌else◌, vec_len, vec_capacity}
+use Rattle.std.specs.Prelude.{◌≡◌, ℕ, suc, ◌+◌, ◌*◌, ◌≤◌, ◌^◌, pos, List, map, length, Bool, ◌&&◌, nat_lt, ℤ, Option, Some, None, if◌then◌else◌, vec_len, vec_capacity}
 use Rattle.std.specs.List.{AllByRecursion}
 use Rattle.czi_format.specs.Layout.{Layout, Place}
 use Rattle.czi_format.specs.Live.{Live}
 use Rattle.czi_format.specs.Span.{Span, AreDisjoint, end_of}
 use Rattle.czi_format.specs.Walk.{goes_on}
+use Rattle.czi_format.specs.declared.numbers.TheConstants.{LONGEST_ENTRY}
 use Rattle.czi_machine.specs.Change.{changed, mapped, mapped_setting, set}
 use Rattle.czi_machine.specs.Places.{walk_goes_on}
 use Rattle.czi_machine.specs.LiveChange.{changed_live, pointer}
@@ -13,7 +14,8 @@ use Rattle.czi_num.specs.declared.span.Span.{Span as CodeSpan}
 use Rattle.czi_image.specs.Change.{AreWithin, acts_of, setting_of, live_change_of}
 use Rattle.czi_image.specs.Holds.{Holds, LiesAs, directory_place, tile_place, att_item_place, meta_item_place}
 use Rattle.czi_image.specs.Spans.{AreFree, live_spans}
-use Rattle.czi_image.specs.View.{meta_item_of}
+use Rattle.czi_image.specs.Summary.{entries_len}
+use Rattle.czi_image.specs.View.{meta_item_of, tile_of}
 use Rattle.czi_image.specs.declared.change.Change.{Change}
 use Rattle.czi_image.specs.declared.change.DirectoryChange.{DirectoryChange}
 use Rattle.czi_image.specs.declared.change.DirectoryChange.TheVariants.{Kept, Patched, New}
@@ -67,6 +69,20 @@ pub record HasRoom (c : Change) (count : ℕ) (x : Index) : Type 0 where
   pub attachments : vec_len x.attachments + length c.attachments.items ≤ vec_capacity x.attachments
   pub extents : count ≤ vec_capacity x.extents
 
+-- there is memory for so many subblocks with the numbers of their keys, so many attachments and so many extents in all
+pub record HasCapacity (subblocks attached free : ℕ) (x : Index) : Type 0 where
+  pub tiles : subblocks ≤ vec_capacity x.tiles
+  pub numbers : subblocks ≤ vec_capacity x.summary.numbers
+  pub attachments : attached ≤ vec_capacity x.attachments
+  pub extents : free ≤ vec_capacity x.extents
+
+-- no list of the new index has less memory than that of the old one
+pub record KeepsRoom (old new : Index) : Type 0 where
+  pub tiles : vec_capacity old.tiles ≤ vec_capacity new.tiles
+  pub numbers : vec_capacity old.summary.numbers ≤ vec_capacity new.summary.numbers
+  pub attachments : vec_capacity old.attachments ≤ vec_capacity new.attachments
+  pub extents : vec_capacity old.extents ≤ vec_capacity new.extents
+
 -- The new index is the old one after a change, with these free extents and this length.
 pub record IsChanged (c : Change) (free : List CodeSpan) (n : ℕ) (old new : Index) : Type 0 where
   pub header : new.header ≡ record old.header {
@@ -83,6 +99,12 @@ pub record IsChanged (c : Change) (free : List CodeSpan) (n : ℕ) (old new : In
   pub extents : new.extents.items ≡ free
   pub unknown : new.unknown ≡ old.unknown
   pub walk_end : new.walk_end ≡ walk_end_after old n
+
+-- The new index has at most so many subblocks and attachments more, and at most the longest entry more for each such subblock.
+pub record GrowsBy (subblocks attached : ℕ) (old new : Index) : Type 0 where
+  pub tiles : length new.tiles.items ≤ length old.tiles.items + subblocks
+  pub attachments : length new.attachments.items ≤ length old.attachments.items + attached
+  pub entries : entries_len (map tile_of new.tiles.items) ≤ entries_len (map tile_of old.tiles.items) + LONGEST_ENTRY * subblocks
 
 -- The new index is the old one; only how much memory its lists have may differ.
 pub record IsSame (old new : Index) : Type 0 where
@@ -131,3 +153,20 @@ HoldsStill = (old new : Index) (live : Live) → IsSame old new → Holds live o
 
 abbrev pub LiesStill : Type 0
 LiesStill = (old new : Index) (l : Layout) → IsSame old new → LiesAs l old → LiesAs l new
+
+-- each act of a change brings one item at most
+abbrev pub GrowsWithActs : Type 0
+GrowsWithActs = (subblocks attached : ℕ) (c : Change) (free : List CodeSpan) (n : ℕ) (old new : Index) → length c.tiles.items ≤ subblocks → length c.attachments.items ≤ attached → IsChanged c free n old new → GrowsBy subblocks attached old new
+
+-- memory that there was is still there where room is kept
+abbrev pub CapacityLasts : Type 0
+CapacityLasts = (subblocks attached free : ℕ) (old new : Index) → KeepsRoom old new → HasCapacity subblocks attached free old → HasCapacity subblocks attached free new
+
+-- where each list has at most one act, memory for one change more leaves memory for those to come
+abbrev pub CapacityLeft : Type 0
+CapacityLeft = (more free : ℕ) (c : Change) (extents : List CodeSpan) (n : ℕ) (old new : Index) → length c.tiles.items ≤ 1 → length c.attachments.items ≤ 1 → IsChanged c extents n old new → KeepsRoom old new
+    → HasCapacity (length old.tiles.items + suc more) (length old.attachments.items + suc more) free old → HasCapacity (length new.tiles.items + more) (length new.attachments.items + more) free new
+
+-- memory for all that there is and for one more with each act is room for a change
+abbrev pub CapacitySuffices : Type 0
+CapacitySuffices = (subblocks attached free : ℕ) (c : Change) (count : ℕ) (x : Index) → length x.tiles.items + length c.tiles.items ≤ subblocks → length x.attachments.items + length c.attachments.items ≤ attached → count ≤ free → HasCapacity subblocks attached free x → HasRoom c count x

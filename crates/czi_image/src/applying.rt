@@ -4,7 +4,7 @@ ghost use Rattle.std.specs.Prelude.{◌≡◌, ◌+◌, ◌≤◌, ◌∷◌, []
 ghost use Rattle.czi_machine.specs.Change.{changed, set};
 ghost use Rattle.czi_machine.specs.LiveChange.{pointer};
 ghost use Rattle.czi_num.specs.Span.{span_of};
-ghost use Rattle.czi_image.specs.Applied.{CanChange, HasRoom, IsChanged, IsSame, directory_after, pointer_after, walk_end_after};
+ghost use Rattle.czi_image.specs.Applied.{CanChange, HasRoom, IsChanged, IsSame, KeepsRoom, directory_after, pointer_after, walk_end_after};
 ghost use Rattle.czi_image.specs.Change.{AreWithin, act_of, acts_of, setting_of};
 ghost use Rattle.czi_image.specs.Summary.{Sums};
 ghost use Rattle.czi_image.specs.View.{meta_item_of, tile_of};
@@ -38,6 +38,7 @@ fn act_all<T: Drop>(items: &mut Vec<T>, acts: Vec<Act<T>>)
     requires within { AreWithin acts.items (length items.old.items) }
     requires room { vec_len items.old + length acts.items ≤ vec_capacity items.old }
     ensures items { items.new.items ≡ changed (acts_of acts.items) items.old.items }
+    ensures capacity { vec_capacity items.new ≡ vec_capacity items.old }
 {
     for act in acts {
         act_on(items, act);
@@ -52,6 +53,8 @@ fn act_on_tiles(tiles: &mut Vec<Tile>, summary: &mut Summary, acts: Vec<Act<Tile
     requires numbers { vec_len summary.old.numbers + length acts.items ≤ vec_capacity summary.old.numbers }
     ensures items { tiles.new.items ≡ changed (acts_of acts.items) tiles.old.items }
     ensures sums { Sums summary.new (map tile_of tiles.new.items) }
+    ensures capacity { vec_capacity tiles.new ≡ vec_capacity tiles.old }
+    ensures numbers { vec_capacity summary.new.numbers ≡ vec_capacity summary.old.numbers }
 {
     for act in acts {
         summary.act(tiles, &act);
@@ -111,7 +114,8 @@ fn set_metadata(change: Setting<MetaItem>, metadata: &mut Option<MetaItem>, posi
 /// Puts spans in the place of others, where there is room for them.
 fn replace_all(spans: &mut Vec<Span>, new: &[Span])
     requires { length new.now ≤ vec_capacity spans.old }
-    ensures { spans.new.items ≡ new.now }
+    ensures items { spans.new.items ≡ new.now }
+    ensures capacity { vec_capacity spans.old ≤ vec_capacity spans.new }
 {
     spans.clear();
     let _ = spans.extend_from_slice(new);
@@ -120,11 +124,12 @@ fn replace_all(spans: &mut Vec<Span>, new: &[Span])
 impl Index {
     /// Makes a change, in place. With it come the free extents and the image's length afterwards.
     ///
-    /// It takes no memory, and for each act as many steps as items stand behind its place.
+    /// It takes no memory, its lists keep theirs, and for each act it takes as many steps as items stand behind its place.
     pub fn apply(&mut self, change: Change, extents: &[Span], image_len: u64)
         requires can { CanChange change (map span_of extents.now) image_len self.old }
         requires room { HasRoom change (length extents.now) self.old }
-        ensures { IsChanged change extents.now image_len self.old self.new }
+        ensures changed { IsChanged change extents.now image_len self.old self.new }
+        ensures keeps_room { KeepsRoom self.old self.new }
     {
         let Change {
             directory,
@@ -143,7 +148,8 @@ impl Index {
         replace_all(&mut self.extents, extents);
     }
 
-    /// Makes room for as many more subblocks, attachments and free extents. Else the index stays as it was.
+    /// Makes room for as many more subblocks, attachments and free extents. Else the index stays as it was. What room there was
+    /// is kept either way.
     ///
     /// # Errors
     ///
@@ -155,6 +161,7 @@ impl Index {
         extents: usize,
     ) -> Result<(), AllocError>
         ensures same { IsSame self.old self.new }
+        ensures keeps_room { KeepsRoom self.old self.new }
         ensures tiles { OnOk result (vec_len self.new.tiles + tiles ≤ vec_capacity self.new.tiles) }
         ensures numbers { OnOk result (vec_len self.new.summary.numbers + tiles ≤ vec_capacity self.new.summary.numbers) }
         ensures attachments { OnOk result (vec_len self.new.attachments + attachments ≤ vec_capacity self.new.attachments) }

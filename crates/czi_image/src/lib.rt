@@ -25,6 +25,6 @@ pub use change::{Act, Change, DirectoryChange, Setting};
 pub use czi_walk::{WalkFault, walk};
 pub use fault::ImageFault;
 pub use index::Index;
-pub use laws::change_applied;
+pub use laws::{change_applied, room_lasts};
 pub use opening::read_index;
 pub use types::{AttItem, DirItem, MetaItem, Tile};

@@ -74,6 +74,7 @@ impl Summary {
         ensures numbers { self.new.numbers.items ≡ self.old.numbers.items }
         ensures entries_len { self.new.entries_len ≡ self.old.entries_len }
         ensures room { OnOk result (vec_len self.new.numbers + more ≤ vec_capacity self.new.numbers) }
+        ensures capacity { vec_capacity self.old.numbers ≤ vec_capacity self.new.numbers }
     {
         self.numbers.reserve(more)
     }

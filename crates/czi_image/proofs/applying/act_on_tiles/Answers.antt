@@ -35,6 +35,8 @@ loop-act-preserved c =
       sums = subst (λ (tiles : List Tile). Sums c.act.new.self (map tile_of tiles)) (ap (changed (act_of c.in-Some.act)) c.deref.ensures.value ∙ sym c.act_on.ensures.items) c.act.ensures.sums;
       room = omega (arith, c.loop-act.invariant.room, ap length left, c.act_on.ensures.len, c.act_on.ensures.capacity);
       numbers = omega (arith, c.loop-act.invariant.numbers, ap length left, c.act.ensures.len, c.act.ensures.capacity);
+      capacity = c.act_on.ensures.capacity ∙ c.loop-act.invariant.capacity;
+      numbers_capacity = c.act.ensures.capacity ∙ c.loop-act.invariant.numbers_capacity;
     }
 
 pub returns-clause-items : goal.returns-clause-items

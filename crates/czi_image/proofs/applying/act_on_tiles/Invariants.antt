@@ -12,4 +12,6 @@ invariant-loop-act l = record {
   sums : Sums l.summary (map tile_of l.tiles.items);
   room : vec_len l.tiles + length l.act-iterator.rest.items ≤ vec_capacity l.tiles;
   numbers : vec_len l.summary.numbers + length l.act-iterator.rest.items ≤ vec_capacity l.summary.numbers;
+  capacity : vec_capacity l.tiles ≡ vec_capacity l.fn.tiles;
+  numbers_capacity : vec_capacity l.summary.numbers ≡ vec_capacity l.fn.summary.numbers;
 }
