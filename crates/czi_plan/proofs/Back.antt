@@ -1,6 +1,8 @@
 -- How the plan of an inverse begins, and that there is room for it.
 use Rattle.std.proofs.Common.{◌≡◌, ℕ, ◌+◌, ◌≤◌, List, [], ◌∷◌, map, refl, ap, sym, subst, ◌∙◌, arith, inl, inr}
 use Rattle.std.specs.List.{AllByRecursion}
+use Rattle.std.specs.Prelude.{Vec}
+use Rattle.std.specs.Global.{Global as TheGlobal}
 use Rattle.std.proofs.lemmas.Bool.{cases_Bool}
 use Rattle.czi_format.specs.Space.{Space, use_all, use_span}
 use Rattle.czi_format.specs.Span.{Span, end_of}
@@ -25,6 +27,7 @@ use Rattle.czi_plan.specs.Listing.{AreSizes, HasRoomFor, IsPlace}
 use Rattle.czi_plan.specs.Need.{directory_room}
 use Rattle.czi_plan.specs.Plan.{usable_of}
 use Rattle.czi_plan.specs.declared.plan.EditPlan.{EditPlan}
+use Rattle.czi_plan.specs.declared.plan.Records.{Records}
 use Rattle.czi_plan.specs.declared.tiles.Sizes.{Sizes}
 use Rattle.czi_plan.proofs.Entries.{size_in_part, sizes_total}
 use Rattle.czi_plan.proofs.Parts.{fit_place}
@@ -48,9 +51,9 @@ pub length_back : {C E S : Type 0} (k : Kind C E S) (x : Index) (m : MapState) (
 length_back k x m a is all = used_length (used_in k a returned) (space_of m) (back_ends k x m (tiles_brought a) is all)
 
 -- an act begins that brings back
-pub tiles_back : (x : Index) (m : MapState) (region : Region) (a : CodeAct Tile) (p q : EditPlan) (n : ℕ) (d : DirectoryChange) → IsMapOf x m → IsEmpty p → n ≡ m.length → q ≡ record p { length = n; change = record p.change { directory = d }; used = q.used; marks = q.marks }
+pub tiles_back : (x : Index) (m : MapState) (region : Region) (a : CodeAct Tile) (p q : EditPlan) (n : ℕ) (d : DirectoryChange) (dims : Vec Records TheGlobal) → IsMapOf x m → IsEmpty p → n ≡ m.length → q ≡ record p { length = n; change = record p.change { directory = d }; dimensions = dims; used = q.used; marks = q.marks }
     → map span_of q.used.items ≡ used_in of_subblocks a returned → AllByRecursion (IsBack of_subblocks x m) (tiles_brought a) → IsPlace x x.directory (size_after of_subblocks a x) (range_after of_subblocks a x) (space_of m) d → Begins of_subblocks x m region a returned d q
-tiles_back x m region a p q n d is none long others used back place = record {
+tiles_back x m region a p q n d dims is none long others used back place = record {
   brings = (back, ap (λ (z : EditPlan). z.writes.items) others ∙ none.writes);
   starts = record {
     tiles = ap (λ (z : EditPlan). z.change.tiles.items) others ∙ none.change.tiles;
@@ -102,9 +105,9 @@ room_for k x a space (New d) room place enough = omega (arith, (fit_place space 
 pub kinds_back : {C E S : Type 0} (k : Kind C E S) (x : Index) (m : MapState) (ts : List C) → AllByRecursion (IsBack k x m) ts → AllByRecursion (λ (t : C). IsOfKind k.item_id (k.segment t)) ts
 kinds_back k x m ts all = All-weaken (IsBack k x m) (λ t. IsOfKind k.item_id (k.segment t)) (λ t b. b.0) ts all
 
--- memory doesn't hang on the length, nor on what becomes of a directory
-pub memory_tiles : (p : EditPlan) (n : ℕ) (d : DirectoryChange) → HasActMemory p → HasActMemory (record p { length = n; change = record p.change { directory = d } })
-memory_tiles p n d h = record { links = h.links; link_bytes = h.link_bytes; used = h.used; freed = h.freed; held = h.held; tiles = h.tiles; attachments = h.attachments; marks = h.marks; dead = h.dead; touched = h.touched }
+-- memory for the lists doesn't hang on the length, on what becomes of a directory, or on memory for dimensions
+pub memory_tiles : (p : EditPlan) (n : ℕ) (d : DirectoryChange) (dims : Vec Records TheGlobal) → HasActMemory p → HasActMemory (record p { length = n; change = record p.change { directory = d }; dimensions = dims })
+memory_tiles p n d dims h = record { links = h.links; link_bytes = h.link_bytes; used = h.used; freed = h.freed; held = h.held; tiles = h.tiles; attachments = h.attachments; marks = h.marks; dead = h.dead; touched = h.touched }
 
 pub memory_attachments : (p : EditPlan) (n : ℕ) (d : DirectoryChange) → HasActMemory p → HasActMemory (record p { length = n; change = record p.change { attdir = d } })
 memory_attachments p n d h = record { links = h.links; link_bytes = h.link_bytes; used = h.used; freed = h.freed; held = h.held; tiles = h.tiles; attachments = h.attachments; marks = h.marks; dead = h.dead; touched = h.touched }

@@ -480,15 +480,20 @@ module _ {C E S T : Type 0} {k : Kind C E S} {effect : Change S → DocumentEffe
   pub heads_put : AllByRecursion (IsPut pieces) (writes_of region first) × AllByRecursion (IsPut pieces) (new_marks k a)
   heads_put = before_put L r.dir
 
+  -- where that lies which it brings
+  pub lies_anew : (q : ℕ) → cover (map extent (new_segments (M.set_turn dir_then acts))) q ≡ cover (new_spans k a) q + cover (written_dir d (k.directory x)) q
+  lies_anew q =
+      let firsts : map extent (map M.segment (brought acts)) ≡ new_spans k a = map-map M.segment extent (brought acts) ∙ new_extents in
+      omega (arith, M.news dir_then acts q, ap (λ l. cover l q) firsts, ap (λ l. cover l q) (set_spans (λ z. dir_in k z entries_then) d (k.directory x) (directory_in_own k entries_then)))
+
   writes_in : WritesAround live.header (M.set_turn dir_then acts) s.layout (layout_by new s) pieces
   writes_in =
       let extents : m.extents ≡ s.layout.deleted = sym is.extents ∙ lies.lies.deleted in
       let after : deleted_after (used_in k a o ++ used_by d) (freed_by k a d x) m.extents ≡ (layout_by new s).deleted = λ j. deleted_after (sym r.used j) (sym r.stages.freed j) (extents j) in
       let heads : (q : ℕ) → cover (map head (dead s.layout (layout_by new s))) q ≡ cover (map head (dead_of (all_left k a d x))) q
       = λ q. ap (λ l. cover (map head l) q) gone_is ∙ (dead_cover new.change x q ∙ ap (λ l. cover (map head (dead_of l)) q) r.leaves) in
-      let firsts : map extent (map M.segment (brought acts)) ≡ new_spans k a = map-map M.segment extent (brought acts) ∙ new_extents in
       let lie : (q : ℕ) → cover (used_in k a o) q + cover (beside_in k a o) q + cover (written_dir d (k.directory x)) q ≤ cover (map extent (new_segments (M.set_turn dir_then acts))) q
-      = λ q. omega (arith, brought_covers L a o q, M.news dir_then acts q, ap (λ l. cover l q) firsts, ap (λ l. cover l q) (set_spans (λ z. dir_in k z entries_then) d (k.directory x) (directory_in_own k entries_then))) in
+      = λ q. omega (arith, brought_covers L a o q, lies_anew q) in
       M.around live s.layout (layout_by new s) dir_then acts pieces
       (subst (PutsPointer (λ (y : Directory). y.segment) pieces k.pointer (M.position live)) dir_is (dir_pointer L (k.directory x) d (front_entries k a ts) (middle_entries k a ts) (back_entries k a ts) (M.position live) (M.live_dir live) r.dir dir_at pointed))
       (λ q low other. header_clear L r.dir q low (pointer_none k.pointer q d other))

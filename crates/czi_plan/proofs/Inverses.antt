@@ -1,5 +1,5 @@
 -- What an inverse that fits gives the code: its place is in range, and what it brings is a segment that isn't live.
-use Rattle.std.proofs.Common.{◌≡◌, ℕ, ◌+◌, ◌<◌, ◌≤◌, ◌^◌, List, [], ◌∷◌, ◌++◌, map, length, length-append, take, drop, refl, ap, sym, ◌∙◌, subst, arith}
+use Rattle.std.proofs.Common.{◌≡◌, ℕ, ◌+◌, ◌<◌, ◌≤◌, ◌^◌, List, [], ◌∷◌, ◌++◌, true, false, map, length, length-append, take, drop, refl, ap, sym, ◌∙◌, subst, arith}
 use Rattle.std.specs.List.{AllByRecursion}
 use Rattle.std.proofs.lemmas.List.{length-drop, length-take-le}
 use Rattle.czi_doc.specs.View.{info_of}
@@ -12,7 +12,7 @@ use Rattle.czi_format.specs.Segment.{attachment_id, metadata_id, subblock_id}
 use Rattle.czi_image.specs.Change.{AreWithin}
 use Rattle.czi_image.specs.Holds.{att_item_place, meta_item_place, tile_place}
 use Rattle.czi_image.specs.declared.change.Act.{Act as CodeAct}
-use Rattle.czi_image.specs.declared.change.Act.TheVariants.{Out}
+use Rattle.czi_image.specs.declared.change.Act.TheVariants.{Into, Out, Put}
 use Rattle.czi_image.specs.declared.change.Change.{Change as CodeChange}
 use Rattle.czi_image.specs.declared.change.DirectoryChange.{DirectoryChange}
 use Rattle.czi_image.specs.declared.change.Setting.{Setting as CodeSetting}
@@ -32,6 +32,7 @@ use Rattle.czi_plan.specs.Changing.{Begins, IsBack, Origin, Starts, back_entries
 use Rattle.czi_plan.specs.Conditions.{IsLeft, IsMapOf}
 use Rattle.czi_plan.specs.Kind.{Kind, of_attachments, of_subblocks}
 use Rattle.czi_plan.specs.Listing.{AreSizes, IsPlace}
+use Rattle.czi_plan.specs.Need.{of_subblocks as is_of_subblocks}
 use Rattle.czi_plan.specs.Plan.{usable_of}
 use Rattle.czi_plan.specs.Setting.{IsMetadataBack, metadata_brought}
 use Rattle.czi_plan.specs.Undoing.{HeldFits, IsAttachmentAct, IsAttachmentBack, IsMetadataOf, IsMetadataSetting, IsTileAct, IsTileBack, PartFits, place_of}
@@ -40,6 +41,7 @@ use Rattle.czi_plan.specs.declared.bringing.Seat.TheVariants.{Before, Over}
 use Rattle.czi_plan.specs.declared.plan.EditPlan.{EditPlan}
 use Rattle.czi_plan.specs.declared.tiles.Sizes.{Sizes}
 use Rattle.czi_plan.proofs.Brought.{few_at, sizes_at, within_at}
+use Rattle.czi_plan.proofs.ItemsBack.{held_tile}
 use Rattle.czi_plan.proofs.KindLaws.{Laws}
 use Rattle.czi_plan.proofs.Parts.{all_within, brought_by}
 
@@ -130,6 +132,17 @@ sizes_back sizes seat t items entry are long =
     let s : Subblock = record { info = info_of t.info; meta = []; pixels = []; tail = [] } in
     sizes_at of_subblocks sizes seat s t items refl (are s long)
 
+-- The sizes after any act of an inverse: what it takes away, and what it brings.
+abbrev pub AreSizesAfter : Sizes → List Tile → CodeAct Tile → Type 0
+AreSizesAfter sizes items a = AreSizes of_subblocks sizes (front_entries of_subblocks a items) (middle_entries of_subblocks a items) (back_entries of_subblocks a items)
+
+pub sizes_dropped : (sizes : Sizes) (items : List Tile) (place : ℕ) (a : CodeAct Tile) → AreSizesOf of_subblocks sizes (Out place) items → a ≡ Out place → AreSizesAfter sizes items a
+sizes_dropped sizes items place a are is = subst (AreSizesAfter sizes items) (sym is) (are [] refl)
+
+pub sizes_brought : (sizes : Sizes) (items : List Tile) (seat : Seat) (info : CodeEntryInfo) (h : HeldSegment) (entry : ℕ) (a : CodeAct Tile) → ((s : Subblock) → info_len s.info ≡ entry → AreSizesOf of_subblocks sizes (act_at seat s) items) → entry ≡ info_len (info_of info)
+    → (t : Tile) × (a ≡ act_at seat t) × IsTileBack info h t → AreSizesAfter sizes items a
+sizes_brought sizes items seat info h entry a are long act = subst (AreSizesAfter sizes items) (sym act.1) (sizes_back sizes seat act.0 items entry are (ap info_len act.2.says ∙ sym long))
+
 -- Its place is in range, and the list that it gives is within its limit.
 abbrev pub IsInRange : {C E S : Type 0} → Kind C E S → Index → CodeAct C → Type 0
 IsInRange k x a = AreWithin (a ∷ []) (length (k.items x)) × (length (tiles_before a (k.items x) ++ (tiles_brought a ++ tiles_behind a (k.items x))) ≤ k.most)
@@ -161,3 +174,15 @@ attachments_in_range x m (InsertAtt place info h) a fits act = subst (IsInRange 
 attachments_in_range x m NoMeta a fits act = absurd act
 attachments_in_range x m (PutMeta h) a fits act = absurd act
 attachments_in_range x m Unchanged a fits act = absurd act
+
+-- An inverse of the subblocks that fits has an act.
+pub act_of_tiles : (x : Index) (m : MapState) (part : Part) → PartFits x m part → is_of_subblocks part ≡ true → (a : CodeAct Tile) × IsTileAct part a
+act_of_tiles x m (DropSub place) fits kind = (Out place, refl)
+act_of_tiles x m (PutSub place info h) fits kind = let t = held_tile info h fits.1.own (held_ends subblock_id x m h fits.1) in (Put place t.0, (t.0, refl, t.1))
+act_of_tiles x m (InsertSub place info h) fits kind = let t = held_tile info h fits.2.own (held_ends subblock_id x m h fits.2) in (Into place t.0, (t.0, refl, t.1))
+act_of_tiles x m (DropAtt place) fits kind = absurd (let no : false ≡ true = kind in cc (no))
+act_of_tiles x m (PutAtt place info h) fits kind = absurd (let no : false ≡ true = kind in cc (no))
+act_of_tiles x m (InsertAtt place info h) fits kind = absurd (let no : false ≡ true = kind in cc (no))
+act_of_tiles x m NoMeta fits kind = absurd (let no : false ≡ true = kind in cc (no))
+act_of_tiles x m (PutMeta h) fits kind = absurd (let no : false ≡ true = kind in cc (no))
+act_of_tiles x m Unchanged fits kind = absurd (let no : false ≡ true = kind in cc (no))

@@ -1,18 +1,21 @@
 -- Items that are made from their held segments are these items.
-use Rattle.std.proofs.Common.{◌≡◌, ℕ, ◌+◌, ◌-◌, ◌^◌, ◌≤◌, pos, Some, List, Bool, length, slice_index_or, ap, sym, ◌∙◌, arith}
+use Rattle.std.proofs.Common.{◌≡◌, ℕ, ◌+◌, ◌-◌, ◌^◌, ◌≤◌, pos, Some, List, Bool, length, slice_index_or, refl, ap, sym, ◌∙◌, arith}
 use Rattle.czi_doc.specs.View.{att_of, info_of}
 use Rattle.czi_doc.specs.declared.items.AttInfo.{AttInfo as CodeAttInfo}
 use Rattle.czi_doc.specs.declared.items.EntryInfo.{EntryInfo as CodeEntryInfo}
 use Rattle.czi_format.specs.Live.{Tile, AttItem, MetaItem}
 use Rattle.czi_format.specs.Segment.{Segment, attachment_id, header_at, metadata_id, subblock_id}
+use Rattle.czi_format.proofs.Readings.{header_is_read}
 use Rattle.czi_machine.specs.Formers.{Lain}
 use Rattle.czi_seg.specs.View.{header_of}
 use Rattle.czi_seg.specs.declared.header.SegHeader.{SegHeader}
+use Rattle.czi_seg.specs.declared.id.SegId.TheVariants.{Subblock}
 use Rattle.czi_undo.specs.Stands.{IsAttachment, IsHeld, IsMetadata, IsTile}
 use Rattle.czi_undo.specs.declared.held.HeldSegment.{HeldSegment as CodeHeld}
 use Rattle.czi_undo.proofs.ToldAgain.{header_told, id_long}
 use Rattle.czi_plan.specs.Kind.{IsOfKind}
-use Rattle.czi_plan.specs.Undoing.{IsSoundHeld}
+use Rattle.czi_image.specs.declared.types.Tile.{Tile as CodeTile}
+use Rattle.czi_plan.specs.Undoing.{IsSoundHeld, IsTileBack}
 
 -- the header that was kept is that of the segment
 segment_is : (h : CodeHeld) (head : SegHeader) (s : Segment) (w : Bool) (id : List ℕ) → length id ≡ 16 → IsHeld h s w → IsOfKind id s → h.span.at + h.span.len ≤ 2 ^ 62 → header_at h.head 0 ≡ Some (header_of 0 head) → header_of h.span.at head ≡ s
@@ -42,6 +45,36 @@ tile_is i new h head y copied ends reads is kind position =
     let info : info_of new ≡ y.item.entry.info = copied ∙ is.info in
     let place : pos h.span.at ≡ y.item.entry.position = ap (λ z. pos z) at ∙ sym position in
     λ k. record { entry = record { info = info k; position = place k }; segment = segment k; head = record { begin = begin k; meta = meta k; pixels = pixels k; tail = tail k } }
+
+-- There is one of each held segment that is sound.
+pub held_tile : (info : CodeEntryInfo) (h : CodeHeld) → IsSoundHeld subblock_id h → h.span.at + h.span.len ≤ 2 ^ 62 → (t : CodeTile) × IsTileBack info h t
+held_tile info h sound' ends' =
+    let s : Segment = sound'.segment in
+    let head : SegHeader = record { id = Subblock; allocated = s.allocated; used = s.used } in
+    let place : s.at ≡ 0 = (header_is_read h.head 0 s sound'.head).place in
+    let same : s ≡ header_of 0 head = λ j. record { at = place j; id = sound'.named j; allocated = s.allocated; used = s.used } in
+    let reads : header_at h.head 0 ≡ Some (header_of 0 head) = sound'.head ∙ ap (λ (z : Segment). Some z) same in
+    (record {
+      info = info;
+      span = h.span;
+      head = head;
+      walked = h.walked;
+      begin = h.begin;
+      meta = slice_index_or h.sizes 0 0;
+      pixels = slice_index_or h.sizes 1 0;
+      tail = slice_index_or h.sizes 2 0;
+      extent = sound'.extent;
+      sound = sound'.sound;
+      ends = ends';
+      begins = sound'.begins;
+      contents = sound'.contents;
+    }, record {
+      span = refl;
+      walked = refl;
+      says = refl;
+      own = (refl, sound'.sound);
+      item = λ y is kind position. tile_is info info h head y refl ends' reads is kind position;
+    })
 
 pub attachment_is : (i : CodeAttInfo) (h : CodeHeld) (head : SegHeader) (y : Lain AttItem) → h.span.at + h.span.len ≤ 2 ^ 62 → header_at h.head 0 ≡ Some (header_of 0 head)
     → IsAttachment i h y → IsOfKind attachment_id y.item.segment → y.item.entry.position ≡ pos y.item.segment.at

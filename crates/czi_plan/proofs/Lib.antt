@@ -7,6 +7,7 @@ pub mod Brief
 pub mod Acts
 pub mod KindLaws
 pub mod Parts
+pub mod Apart
 pub mod Few
 pub mod Linking
 pub mod Marking
@@ -19,6 +20,7 @@ pub mod Brought
 pub mod ActStages
 pub mod Attached
 pub mod Setting
+pub mod Acting
 pub mod Memory
 pub mod Back
 mod ItemsBack

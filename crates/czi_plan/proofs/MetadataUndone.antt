@@ -10,7 +10,7 @@ use Rattle.czi_format.specs.Segment.{data_of, extent, header_bytes, metadata_id}
 use Rattle.czi_format.specs.Space.{deleted_after, same_span, with_all_freed, without}
 use Rattle.czi_format.specs.Span.{Span, sorted, span_le}
 use Rattle.czi_format.proofs.Local.{All-append}
-use Rattle.czi_image.specs.Change.{acts_of, setting_of}
+use Rattle.czi_image.specs.Change.{acts_of, live_change_of, setting_of}
 use Rattle.czi_image.specs.Holds.{meta_item_place}
 use Rattle.czi_image.specs.Spans.{meta_item_span}
 use Rattle.czi_image.specs.View.{att_item_of, meta_item_of, tile_of}
@@ -58,7 +58,8 @@ use Rattle.czi_plan.proofs.Directing.{IsPut}
 use Rattle.czi_plan.proofs.Doing.{layout_apart}
 use Rattle.czi_plan.proofs.Linking.{cover-fewer, is_32}
 use Rattle.czi_plan.proofs.Order.{at_place}
-use Rattle.czi_plan.proofs.Setting.{after as extents_then, brought_covers, deleted_are, extent_is, items_leave, layout_is, length-metadata, long, parts, plans_of, written}
+use Rattle.czi_plan.proofs.Apart.{brings_apart}
+use Rattle.czi_plan.proofs.Setting.{after as extents_then, apart, brought_by, brought_covers, deleted_are, extent_is, items_leave, layout_is, length-metadata, long, new_extents, parts, plans_of, written}
 use Rattle.czi_plan.proofs.Undone.{brought_of, spans_after, without_dead}
 
 -- An undo that changes nothing: everything stays.
@@ -235,7 +236,7 @@ lays_back {s = s} {x = x} (To (Some i)) {new = new} lies is r lain n =
 
 undoes_in : {image : List ℕ} {live : Live} {s : State} {x : Index} {m : MapState} (z : CodeSetting MetaItem) {region : Region} {new : EditPlan} (lies : LiesIn image live s x m) (is : IsMapOf x m) (r : StagesMetadata x m z returned region new)
     (lain : AllByRecursion (λ i. IsLainMetadata image (items_of s.layout) (meta_item_of i)) (metadata_brought z)) (n : ℕ) → UndoesIn image live s (former_then z lies is r lain n) x region new
-undoes_in {image = image} {live = live} {s = s} {x = x} z {region = region} {new = new} lies is r lain n = record {
+undoes_in {image = image} {live = live} {s = s} {x = x} {m = m} z {region = region} {new = new} lies is r lain n = record {
   goes = lays_back z lies is r lain n;
   effect = effect z lies is r lain;
   document = refl;
@@ -246,6 +247,7 @@ undoes_in {image = image} {live = live} {s = s} {x = x} z {region = region} {new
     attachments = subst (λ (l : List (CodeAct AttItem)). Brings (FindsAttachment image (pieces_of region new)) (mapped att_item_of (acts_of l)) []) (sym r.change.attachments) tt;
     metadata = subst (λ (y : CodeSetting MetaItem). Sets (FindsMetadata image (pieces_of region new)) (mapped_setting meta_item_of (setting_of y)) (effect z lies is r lain).metadata) (sym r.change.metadata) (finds_of z (found_back z lies is r lain));
   };
+  apart = brings_apart live s.layout x (live_change_of new.change x) lies.loosely.extents lies.lies (λ q. omega (arith, ap (λ l. cover l q) (new_extents lies is r), apart z returned is (brought_by x m region z returned new.writes.items is r.brings) q));
   leaves = items_leave lies is r;
 }
 

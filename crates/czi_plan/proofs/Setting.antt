@@ -172,7 +172,7 @@ brought_covers z returned q = omega (arith, cover-split can_be_used (map meta_it
 found : (x : Index) (m : MapState) (d : Metadata) (i : MetaItem) → IsMapOf x m → IsPlacedIn x m d i → IsFound m.length m.held m.extents [] m.length (meta_item_span i)
 found x m d i is placed = found_in x m (metadata_need d) [] (meta_item_span i) is tt (omega arith) (omega arith) placed.fits
 
-brought_by : (x : Index) (m : MapState) (region : Region) (z : CodeSetting MetaItem) (o : Origin Metadata) (writes : List (ℕ × Range)) → IsMapOf x m → Comes x m region z o writes → AreBrought x m (metadata_used z o) (metadata_beside z o) (metadata_needed z o)
+pub brought_by : (x : Index) (m : MapState) (region : Region) (z : CodeSetting MetaItem) (o : Origin Metadata) (writes : List (ℕ × Range)) → IsMapOf x m → Comes x m region z o writes → AreBrought x m (metadata_used z o) (metadata_beside z o) (metadata_needed z o)
 brought_by x m region Same (edited d) writes is b = absurd b
 brought_by x m region (To None) (edited d) writes is b = absurd b
 brought_by x m region (To (Some i)) (edited d) writes is b = new_brought x m (meta_item_span i) is (found x m d i is b.1)
@@ -237,7 +237,7 @@ module _ {x : Index} {m : MapState} (z : CodeSetting MetaItem) (o : Origin Metad
       are_parts m.length top (header_span x.header) (metadata_left z x) (metadata_beside z o) m.extents (metadata_used z o) gone taken (long_enough x m z o is).0 (long_enough x m z o is).1
       (omega (arith, few_used z o, spans_both can_be_used (metadata_left z x), left_few (set_omitted (setting_of z) x.metadata)))
 
-  apart : (q : ℕ) → cover (live_of x) q + (cover (map meta_item_span (metadata_brought z)) q + cover (without (metadata_used z o) m.extents) q) ≤ 1
+  pub apart : (q : ℕ) → cover (live_of x) q + (cover (map meta_item_span (metadata_brought z)) q + cover (without (metadata_used z o) m.extents) q) ≤ 1
   apart q = elim (cases_lt q m.length) [
     | inl h ↦ omega (arith, brought_covers z o q, brought.once q, taken.apart q, taken.below q h, without_fewer (metadata_used z o) m.extents q)
     | inr h ↦ omega (arith, brought_covers z o q, taken.apart q, ends_none m.length q (metadata_beside z o) brought.beside_ends h, ends_none x.length q (live_of x) x.inside (omega (arith, h, is.length)))
@@ -604,14 +604,18 @@ module _ {image : List ℕ} {live : Live} {s : State} {x : Index} {m : MapState}
   after_is : after is r ≡ (layout_by new s).deleted
   after_is = λ j. deleted_after (sym r.used j) (sym r.freed j) (extents_are j)
 
+  -- where that lies which it brings
+  pub new_extents : map extent (new_segments change) ≡ map meta_item_span (metadata_brought z)
+  new_extents = (λ j. map extent (option_to_list (option_map (λ (y : Directory). y.segment) (set_new (directory_set make (r.change.directory j) x.directory)))
+      ++ (map (λ (y : FormatTile). y.segment) (brought (mapped tile_of (acts_of (r.change.acts j)))) ++ (option_to_list (option_map (λ (y : Directory). y.segment) (set_new (directory_set make' (r.change.attdir j) x.attdir)))
+      ++ (map (λ (y : FormatAttItem). y.segment) (brought (mapped att_item_of (acts_of (r.change.attachments j)))) ++ option_to_list (option_map (λ (y : FormatMetaItem). y.segment) (set_new (mapped_setting meta_item_of (setting_of (r.change.metadata j)))))))))) ∙ extents_there z
+
   -- the pieces lie where a command may write
   within : (q b : ℕ) → byte_of our_pieces q ≡ Some b
       → 1 ≤ cover (record { at = 84; len = 16 } ∷ record { at = 104; len = 8 } ∷ (map extent (new_segments change) ++ map head (marked s.layout (layout_by new s)))) q
   within q b put =
       let N : List Segment = new_segments change in
-      let their : map extent N ≡ map meta_item_span (metadata_brought z) = (λ j. map extent (option_to_list (option_map (λ (y : Directory). y.segment) (set_new (directory_set make (r.change.directory j) x.directory)))
-      ++ (map (λ (y : FormatTile). y.segment) (brought (mapped tile_of (acts_of (r.change.acts j)))) ++ (option_to_list (option_map (λ (y : Directory). y.segment) (set_new (directory_set make' (r.change.attdir j) x.attdir)))
-      ++ (map (λ (y : FormatAttItem). y.segment) (brought (mapped att_item_of (acts_of (r.change.attachments j)))) ++ option_to_list (option_map (λ (y : FormatMetaItem). y.segment) (set_new (mapped_setting meta_item_of (setting_of (r.change.metadata j)))))))))) ∙ extents_there z in
+      let their : map extent N ≡ map meta_item_span (metadata_brought z) = new_extents in
       let A : List Span = (layout_by new s).deleted in
       let D : List Span = dead s.layout (layout_by new s) in
       omega (

@@ -3,7 +3,7 @@ use Rattle.std.proofs.Common.{Ok, Err, Result, IfErr, get_or, ◌≡◌, ℕ, �
 use Rattle.std.specs.Prelude.{vec_len, vec_capacity}
 use Rattle.std.proofs.lemmas.List.Sums.{sum_by-cons}
 use Rattle.std.proofs.lemmas.List.{drop-drop, length-drop, length-take-le}
-use Rattle.czi_format.specs.Entry.{entry_len}
+use Rattle.czi_format.specs.Entry.{entry_len, info_len}
 use Rattle.czi_image.specs.Change.{AreWithin}
 use Rattle.czi_image.specs.Summary.{entries_len}
 use Rattle.czi_image.specs.View.{tile_of}
@@ -45,6 +45,18 @@ attachment_kind_of (InsertAtt place info h) a act = (refl, refl, ap (λ (z : Cod
 attachment_kind_of NoMeta a act = absurd act
 attachment_kind_of (PutMeta h) a act = absurd act
 attachment_kind_of Unchanged a act = absurd act
+
+-- how long the entry is that it brings
+pub entry_brought : (part : Part) (a : CodeAct Tile) → IsTileAct part a → sum (map entry_len (entries_in subblock_kind (tiles_brought a))) ≡ brought_len part
+entry_brought (DropSub place) a act = ap (λ (z : CodeAct Tile). sum (map entry_len (entries_in subblock_kind (tiles_brought z)))) act
+entry_brought (PutSub place info h) a act = ap (λ (z : CodeAct Tile). sum (map entry_len (entries_in subblock_kind (tiles_brought z)))) act.1 ∙ omega (arith, ap info_len act.2.says)
+entry_brought (InsertSub place info h) a act = ap (λ (z : CodeAct Tile). sum (map entry_len (entries_in subblock_kind (tiles_brought z)))) act.1 ∙ omega (arith, ap info_len act.2.says)
+entry_brought (DropAtt place) a act = absurd act
+entry_brought (PutAtt place info h) a act = absurd act
+entry_brought (InsertAtt place info h) a act = absurd act
+entry_brought NoMeta a act = absurd act
+entry_brought (PutMeta h) a act = absurd act
+entry_brought Unchanged a act = absurd act
 
 -- so it has one directory, or none
 tiles_one : (parts : List Part) (part : Part) → parts ≡ part ∷ [] → of_subblocks part ≡ true → of_attachments part ≡ false → (changes_tiles parts ≡ true) × (changes_attachments parts ≡ false)
@@ -121,9 +133,10 @@ others_fit (Into i t) items = omega (arith, split_len i items)
 room_rises : (n n' : ℕ) → n ≤ n' → directory_room n ≤ directory_room n'
 room_rises n n' h = omega (arith, h)
 
-pub room_tiles : (x : Index) (parts : List Part) (part : Part) (a : CodeAct Tile) (n room : ℕ) → parts ≡ part ∷ [] → IsTileAct part a → sum (map entry_len (entries_in subblock_kind (tiles_brought a))) ≡ brought_len part
+pub room_tiles : (x : Index) (parts : List Part) (part : Part) (a : CodeAct Tile) (n room : ℕ) → parts ≡ part ∷ [] → IsTileAct part a
     → region_by parts (entries_len (map tile_of x.tiles.items)) n ≤ room → directory_room (size_after subblock_kind a x) ≤ room
-room_tiles x parts part a n room only act long enough =
+room_tiles x parts part a n room only act enough =
+    let long = entry_brought part a act in
     let kind = tile_kind part a act in
     let one = tiles_one parts part only kind.0 kind.1 in
     let brought : brought_by parts ≡ brought_len part = ap brought_by only ∙ omega arith in

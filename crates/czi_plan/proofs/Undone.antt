@@ -1,5 +1,5 @@
 -- The plan of an undo of the subblocks or of the attachments: it is what the machine asks for, and there is none where a new directory has no place.
-use Rattle.std.proofs.Common.{◌≡◌, ℕ, zero, suc, [], ◌∷◌, true, false, Option, Some, None, option_map, Ok, Err, refl, ap, sym, ◌∙◌, subst, ◌+◌, ◌<◌, ◌≤◌, List, ◌++◌, map, length, sum, arith, filter, ◌==◌, if◌then◌else◌, Bool, pos, inl, inr}
+use Rattle.std.proofs.Common.{◌≡◌, ℕ, zero, suc, [], ◌∷◌, true, false, Option, Some, None, option_map, option_to_list, Ok, Err, refl, ap, sym, ◌∙◌, subst, ◌+◌, ◌<◌, ◌≤◌, List, ◌++◌, map, length, sum, arith, filter, ◌==◌, if◌then◌else◌, Bool, pos, inl, inr}
 use Rattle.std.specs.List.{AllByRecursion, flat_map, list_any}
 use Rattle.std.specs.Prelude.{IsFalse}
 use Rattle.std.proofs.lemmas.Bool.{cases_Bool}
@@ -60,7 +60,8 @@ use Rattle.czi_undo.specs.declared.held.HeldSegment.{HeldSegment}
 use Rattle.czi_undo.specs.declared.inverse.Inverse.{Inverse}
 use Rattle.czi_undo.specs.declared.inverse.Part.{Part}
 use Rattle.czi_undo.specs.declared.inverse.Part.TheVariants.{DropAtt, DropSub, InsertAtt, InsertSub, NoMeta, PutAtt, PutMeta, PutSub, Same as Unchanged}
-use Rattle.czi_plan.specs.Changing.{IsBack, Origin, Stages, all_left, back_entries, beside_in, entries_in, front_entries, items_left, middle_entries, new_marks, range_after, returned, size_after, tiles_before, tiles_behind, tiles_brought, tiles_leaving, used_in}
+use Rattle.czi_plan.specs.Changing.{IsBack, Origin, Stages, all_left, back_entries, beside_in, entries_in, front_entries, items_left, middle_entries, new_marks, new_spans, range_after, returned, size_after, tiles_before, tiles_behind, tiles_brought, tiles_leaving, used_in}
+use Rattle.czi_plan.specs.Apart.{BringsApart}
 use Rattle.czi_plan.specs.Conditions.{IsMapOf, LiesIn}
 use Rattle.czi_plan.specs.Directory.{need_of}
 use Rattle.czi_plan.specs.Does.{layout_by}
@@ -78,13 +79,14 @@ use Rattle.czi_plan.specs.declared.plan.PlanFault.TheVariants.{Full as Filled, M
 use Rattle.czi_plan.proofs.Acts.{act_as, brought_act, brought_as, changed_images, changes_act, lens_before, lens_behind, lens_leaving, mapped_act, omitted_act, range_act, range_as, size_as, sum-three}
 use Rattle.czi_plan.proofs.Changed.{Changes, changes_of, freed_by, plan_of}
 use Rattle.czi_plan.proofs.Directing.{IsPut, dir_within, directory_in_own, pointer_of}
-use Rattle.czi_plan.proofs.Doing.{acts, deleted_there, dir_then, heads_put, items_leave, layout_apart, left_list, length_there, new_walked, pieces, pieces_are, placed_in, plans_of, turned}
+use Rattle.czi_plan.proofs.Doing.{acts, deleted_there, dir_then, heads_put, items_leave, layout_apart, left_list, length_there, lies_anew, new_walked, pieces, pieces_are, placed_in, plans_of, turned}
 use Rattle.czi_plan.proofs.Linking.{all_entries, both_cover, brought_long, cover-fewer, is_32, marks_by, writes_by}
 use Rattle.czi_plan.proofs.Order.{at_place}
 use Rattle.czi_plan.proofs.KindLaws.{Laws, att_laws, tile_laws}
 use Rattle.czi_plan.proofs.Machines.{Machine, att_machine, brought_images, tile_machine}
 use Rattle.czi_plan.proofs.Needs.{directory_lies, items_once, left_by, same_test, space_by}
-use Rattle.czi_plan.proofs.Parts.{brought_covers, each_of, few_brought, kept_of, length_after, pointers_of, used_by, written_dir}
+use Rattle.czi_plan.proofs.Apart.{brings_apart, directory_spans_of, written_among}
+use Rattle.czi_plan.proofs.Parts.{brought_covers, each_of, few_brought, kept_of, length_after, pointers_of, used_apart, used_by, written_dir}
 
 -- What is live after a change lies where the layout afterwards has it.
 both_mapped : {X A B : Type 0} (P : A → B → Type 0) (f : X → A) (g : X → B) → ((x : X) → P (f x) (g x)) → (c : List (Act X)) → Both P (mapped f c) (mapped g c)
@@ -216,6 +218,8 @@ pub record Returning {C E S T : Type 0} {k : Kind C E S} {effect : Change S → 
       → IsFound image pieces (M.live t) (content image (M.live t))
   pub found_comes : (image : List ℕ) (pieces : List Piece) (t : T) (s : S) → IsFound image pieces t s → M.Brought image pieces t s
   pub finds : (image : List ℕ) (pieces : List Piece) (o : Setting Directory) (acts : List (Act T)) (c : Change S) → Both (IsFound image pieces) acts c → Finds image (M.set_turn o acts) (effect c) pieces
+  -- its directory is one of an index
+  pub own_directory : (x : Index) (q : ℕ) → cover (option_to_list (option_map directory_span (k.directory x))) q ≤ cover (directory_spans_of x) q
 
 -- An act with images of its items.
 within_as : {X Y : Type 0} (f : X → Y) (a : CodeAct X) (n : ℕ) → AreWithin (a ∷ []) n → AreWithin (act_as f a ∷ []) n
@@ -456,6 +460,18 @@ module _ {C E S T : Type 0} {k : Kind C E S} {effect : Change S → DocumentEffe
   comes_both = both_brought (M.Brought image (pieces L M lies is plan r)) M.live (λ t. R.content image (M.live t)) (act_of a)
       (All-weaken (λ t. R.IsFound image (pieces L M lies is plan r) (M.live t) (R.content image (M.live t))) (λ t. M.Brought image (pieces L M lies is plan r) (M.live t) (R.content image (M.live t))) (λ t h. R.found_comes image (pieces L M lies is plan r) (M.live t) (R.content image (M.live t)) h) (brought (act_of a)) found_all)
 
+  -- What comes back is in nothing that is live, and a new directory neither.
+  apart_back : BringsApart live (live_change_of new.change x)
+  apart_back =
+      subst (BringsApart live) (sym (turned L M lies is plan r)) (brings_apart live s.layout x (M.set_turn (dir_then L M lies is plan r) (acts L M lies is plan r)) lies.loosely.extents lies.lies (λ q. omega (
+        arith,
+        lies_anew L M lies is plan r q,
+        written_among d (k.directory x) q,
+        R.own_directory x q,
+        used_apart L x m a origin d q is r.marks.comes r.marks.found,
+        cover-append (new_spans k a) (used_by d) q,
+      )))
+
   -- So it is the undo of this former document.
   pub undoes_in : (n : ℕ) → UndoesIn image live s (former_then L M R a lies is within lain n) x region new
   undoes_in n =
@@ -468,6 +484,7 @@ module _ {C E S T : Type 0} {k : Kind C E S} {effect : Change S → DocumentEffe
         plans = plans_of L M lies is plan r c comes_both;
         finds = subst (λ z. Finds image z (effect c) (pieces_of region new)) (sym (turned L M lies is plan r))
             (subst (λ z. Finds image (M.set_turn (dir_then L M lies is plan r) (acts L M lies is plan r)) (effect c) z) (sym (pieces_are L M lies is plan r)) (R.finds image (pieces L M lies is plan r) (dir_then L M lies is plan r) (acts L M lies is plan r) c found_both));
+        apart = apart_back;
         leaves = items_leave L M lies is plan r;
       }
 
@@ -490,6 +507,7 @@ tile_returning = record {
   find = λ image items pieces t h inside puts. record { id = h.1; sound = h.3; position = h.2; reads = h.0; contents = refl; inside = inside; puts = puts };
   found_comes = λ image pieces t s h. inr h;
   finds = λ image pieces o acts c both. record { tiles = both; attachments = tt; metadata = tt };
+  own_directory = λ x q. omega (arith, cover-append (option_to_list (option_map directory_span x.directory)) (option_to_list (option_map directory_span x.attdir)) q);
 }
 
 unfoldable pub att_returning : Returning att_machine
@@ -510,6 +528,7 @@ att_returning = record {
   find = λ image items pieces i h inside puts. record { id = h.1; sound = h.3; position = h.2; reads = h.0; contents = refl; inside = inside; puts = puts };
   found_comes = λ image pieces i s h. inr h;
   finds = λ image pieces o acts c both. record { tiles = tt; attachments = both; metadata = tt };
+  own_directory = λ x q. omega (arith, cover-append (option_to_list (option_map directory_span x.directory)) (option_to_list (option_map directory_span x.attdir)) q);
 }
 
 -- An act of the code with the items of an inverse.

@@ -14,5 +14,6 @@ pub mod Bringing
 pub mod Attaching
 pub mod Setting
 pub mod Need
+pub mod Apart
 pub mod Undoing
 pub mod Fits

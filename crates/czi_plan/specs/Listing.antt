@@ -9,7 +9,7 @@ use Rattle.czi_image.specs.declared.change.DirectoryChange.TheVariants.{Kept, Pa
 use Rattle.czi_image.specs.declared.index.Index.{Index}
 use Rattle.czi_image.specs.declared.types.DirItem.{DirItem}
 use Rattle.czi_links.specs.Record.{Bytes}
-use Rattle.czi_region.specs.Pieces.{IsPiece, bytes_of}
+use Rattle.czi_region.specs.Pieces.{IsPiece, bytes_of, bytes_put, room}
 use Rattle.czi_region.specs.declared.block.Piece.{Piece as Range}
 use Rattle.czi_region.specs.declared.block.Region.{Region}
 use Rattle.czi_plan.specs.Directory.{need_of}
@@ -89,6 +89,10 @@ Lists k was Kept front middle back region old new marks more = (new ≡ old) × 
 Lists k None Patched front middle back region old new marks more = ⊥
 Lists k (Some d) Patched front middle back region old new marks more = (new ≡ record old { marks = new.marks }) × Patches k d front middle back marks more
 Lists k was (New d) front middle back region old new marks more = Writes k d (front ++ (middle ++ back)) region old new marks more
+
+-- how many bytes it has memory for, with those that were put
+abbrev pub bytes_held : Region → ℕ
+bytes_held r = room r + length (bytes_put r)
 
 -- the pieces that there were are still ones, and have the bytes that they had
 abbrev pub KeepsPut : Region → Region → Type 0

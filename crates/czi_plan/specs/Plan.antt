@@ -66,6 +66,13 @@ left_places c x = left_items c x ++ (left_directory c.directory x.directory ++ l
 abbrev pub extents_after : EditPlan → List Span → List Span
 extents_after p extents = deleted_after (used_of p) (freed_of p) extents
 
+-- It is brief: at most two spans are used, and two freed, and at most one act is done with each list.
+pub record IsBrief (p : EditPlan) : Type 0 where
+  pub used : length p.used.items ≤ 2
+  pub freed : length p.freed.items ≤ 2
+  pub tiles : length p.change.tiles.items ≤ 1
+  pub attachments : length p.change.attachments.items ≤ 1
+
 pub record IsPlan (x : Index) (m : MapState) (region : Region) (p : EditPlan) : Type 0 where
   -- the writes are pieces of the region, go where nothing is needed, and leave no long gap
   pub staged : AllByRecursion (λ (w : ℕ × Range). IsPiece region w.1) p.writes.items

@@ -6,6 +6,7 @@ use Rattle.czi_format.specs.Live.{AttItem, Live, MetaItem, Tile}
 use Rattle.czi_format.specs.Segment.{Segment, attachment_id, header_at, metadata_id, subblock_id}
 use Rattle.czi_format.specs.Space.{Full}
 use Rattle.czi_format.specs.Span.{end_of}
+use Rattle.czi_doc.specs.View.{info_of}
 use Rattle.czi_doc.specs.declared.items.AttInfo.{AttInfo}
 use Rattle.czi_doc.specs.declared.items.EntryInfo.{EntryInfo}
 use Rattle.czi_image.specs.Change.{live_change_of}
@@ -38,6 +39,7 @@ use Rattle.czi_undo.specs.declared.inverse.Part.{Part}
 use Rattle.czi_undo.specs.declared.inverse.Part.TheVariants.{DropSub, PutSub, InsertSub, DropAtt, PutAtt, InsertAtt, NoMeta, PutMeta, Same}
 use Rattle.czi_undo.specs.Laws.{LiesBefore}
 use Rattle.czi_undo.specs.Stands.{IsAttachment, IsMetadata, IsSingle, IsTile}
+use Rattle.czi_plan.specs.Apart.{BringsApart}
 use Rattle.czi_plan.specs.Conditions.{IsLeft, IsMapOf, LiesIn}
 use Rattle.czi_plan.specs.Does.{layout_by}
 use Rattle.czi_plan.specs.Kind.{IsOfKind}
@@ -98,6 +100,7 @@ pub record InverseFits (x : Index) (m : MapState) (i : Inverse) : Type 0 where
 pub record IsTileBack (info : EntryInfo) (h : HeldSegment) (t : CodeTile) : Type 0 where
   pub span : t.span ≡ h.span
   pub walked : t.walked ≡ h.walked
+  pub says : info_of t.info ≡ info_of info
   pub own : IsOfKind subblock_id (tile_of t).segment
   pub item : (y : Lain Tile) → IsTile info h y → IsOfKind subblock_id y.item.segment → y.item.entry.position ≡ pos y.item.segment.at → tile_of t ≡ y.item
 
@@ -161,8 +164,9 @@ pub record UndoesIn (image : List ℕ) (live : Live) (s : State) (f : Former) (x
   pub document : f.document ≡ after effect s.document
   pub spans : SpansAt (layout_by p s) (changed_live (live_change_of p.change x) live)
   pub plans : Plans image s.layout (layout_by p s) live effect (live_change_of p.change x) (pieces_of region p)
-  -- it brings nothing anew
+  -- it brings nothing anew, and what comes back lies where no item is live
   pub finds : Finds image (live_change_of p.change x) effect (pieces_of region p)
+  pub apart : BringsApart live (live_change_of p.change x)
   -- the items of the state that aren't live afterwards are those that leave
   pub leaves : not_among (item_spans (items_of (layout_by p s))) (item_places (items_of s.layout)) ≡ left_items p.change x
 

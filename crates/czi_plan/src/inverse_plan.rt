@@ -1,52 +1,24 @@
 //! The plan of an inverse.
 
-ghost use Rattle.std.specs.Prelude.{◌≡◌, ◌≤◌, [], ◌∷◌, false, length, map, sum, IfErr, IfSome, IsNone, OnOk, Vec, vec_len};
-ghost use Rattle.czi_format.specs.Entry.{entry_len as len_of};
+ghost use Rattle.std.specs.Prelude.{◌≡◌, ◌≤◌, false, length, map, IfErr, IfSome, IsNone, OnErr, OnOk};
 ghost use Rattle.czi_image.specs.Summary.{entries_len};
 ghost use Rattle.czi_image.specs.View.{tile_of};
 ghost use Rattle.czi_region.specs.Pieces.{room};
-ghost use Rattle.czi_plan.specs.Changing.{entries_in, tiles_brought};
 ghost use Rattle.czi_plan.specs.Conditions.{IsEmpty, IsMapOf};
-ghost use Rattle.czi_plan.specs.Kind.{of_subblocks as subblock_kind};
-ghost use Rattle.czi_plan.specs.Need.{HasSpare, brought_len, need_by, of_attachments, of_subblocks, region_by};
-ghost use Rattle.czi_plan.specs.Plan.{IsPlan};
-ghost use Rattle.czi_plan.specs.Undoing.{HasNoUndo, InverseFits, IsAttachmentAct, IsMetadataSetting, IsTileAct, PartFits, Undoes};
+ghost use Rattle.czi_plan.specs.Listing.{bytes_held};
+ghost use Rattle.czi_plan.specs.Need.{HasSpare, need_by, of_attachments, of_subblocks, region_by};
+ghost use Rattle.czi_plan.specs.Placing.{HasNoPlace};
+ghost use Rattle.czi_plan.specs.Plan.{IsBrief, IsPlan};
+ghost use Rattle.czi_plan.specs.Undoing.{HasNoUndo, InverseFits, IsAttachmentAct, IsMetadataSetting, PartFits, Undoes};
 
-use crate::plan::{EditPlan, PlanFault, Records};
-use crate::returning::{attachment_back, metadata_back, tile_back};
+use crate::need::of_subblocks;
+use crate::plan::{EditPlan, PlanFault};
+use crate::returning::{attachment_back, metadata_back};
 use crate::undoing::{plan_attachments, plan_setting, plan_tiles};
-use czi_image::{Act, AttItem, Index, MetaItem, Setting, Tile};
+use czi_image::{Act, AttItem, Index, MetaItem, Setting};
 use czi_region::Region;
 use czi_space::Map;
 use czi_undo::{Inverse, Part};
-
-/// What an inverse does with the subblocks, if it changes them. The dimensions of one that comes back stand in memory that there
-/// is for them.
-fn tile_act(
-    index: &Index,
-    space: &Map,
-    part: &Part,
-    dimensions: &mut Vec<Records>,
-) -> Option<Act<Tile>>
-    requires fits { PartFits index.now space.now part.now }
-    requires memory { 1 ≤ vec_len dimensions.old }
-    ensures none { IsNone result → of_subblocks part.now ≡ false }
-    ensures act { IfSome result (IsTileAct part.now) }
-    ensures len { IfSome result (λ a. sum (map len_of (entries_in subblock_kind (tiles_brought a))) ≡ brought_len part.now) }
-{
-    match part {
-        Part::DropSub { place } => Some(Act::Out(*place as usize)),
-        Part::PutSub { place, info, held } => {
-            let memory = dimensions.pop().unwrap();
-            Some(Act::Put(*place as usize, tile_back(info, held, memory)))
-        }
-        Part::InsertSub { place, info, held } => {
-            let memory = dimensions.pop().unwrap();
-            Some(Act::Into(*place as usize, tile_back(info, held, memory)))
-        }
-        _ => None,
-    }
-}
 
 /// What an inverse does with the attachments, if it changes them.
 fn attachment_act(index: &Index, space: &Map, part: &Part) -> Option<Act<AttItem>>
@@ -88,8 +60,8 @@ fn metadata_setting(index: &Index, space: &Map, part: &Part) -> Setting<MetaItem
 ///
 /// # Errors
 ///
-/// `Full` exactly where the directory isn't changed in place and a new one has no place. Nothing is said of `region` and `out`
-/// then.
+/// `Full` exactly where the directory isn't changed in place and a new one has no place. The region and the plan with its memory
+/// are then as they were, but for the plan's length.
 pub fn plan_inverse(
     index: &Index,
     space: &Map,
@@ -105,11 +77,15 @@ pub fn plan_inverse(
     ensures plan { OnOk result (IsPlan index.now space.now region.new out.new) }
     ensures undoes { OnOk result (Undoes index.now space.now inverse.now region.new out.new) }
     ensures held { OnOk result (length out.new.held.items ≤ 1) }
+    ensures brief { OnOk result (IsBrief out.new) }
     ensures full { IfErr result (HasNoUndo index.now space.now inverse.now) }
+    ensures never { IfErr result HasNoPlace }
+    ensures left { OnErr result ((region.new ≡ region.old) × (out.new ≡ record out.old { length = out.new.length })) }
+    ensures region { bytes_held region.new ≡ bytes_held region.old }
 {
     let part = &inverse.parts[0];
-    if let Some(act) = tile_act(index, space, part, &mut out.dimensions) {
-        return plan_tiles(index, space, act, region, out);
+    if of_subblocks(part) {
+        return plan_tiles(index, space, part, region, out);
     }
     if let Some(act) = attachment_act(index, space, part) {
         return plan_attachments(index, space, act, region, out);

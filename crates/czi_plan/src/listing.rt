@@ -9,10 +9,10 @@ ghost use Rattle.czi_region.specs.Pieces.{room};
 ghost use Rattle.czi_region.specs.declared.block.Region.{Region as TheRegion};
 ghost use Rattle.czi_space.specs.State.{AreExtents, space_of};
 ghost use Rattle.czi_plan.specs.Directory.{directory_size, listed, listed_back, listed_front, listed_middle, need_of};
-ghost use Rattle.czi_plan.specs.Listing.{AreSizes, IsPlace, IsReady, KeepsPut, Lists, Patches, Writes, fits_in_place, has_room};
+ghost use Rattle.czi_plan.specs.Listing.{AreSizes, IsPlace, IsReady, KeepsPut, Lists, Patches, Writes, bytes_held, fits_in_place, has_room};
 ghost use Rattle.czi_plan.specs.Marks.{AddsMarks, AreSized, head_mark, marks_of, pointer_mark};
 ghost use Rattle.czi_plan.specs.Need.{KeepsMemory};
-ghost use Rattle.czi_plan.specs.Placing.{IsFull};
+ghost use Rattle.czi_plan.specs.Placing.{HasNoPlace, IsFull};
 ghost use Rattle.czi_plan.specs.Kind.{of_subblocks};
 
 use crate::directory::{count_of, stage_directory, stage_middle};
@@ -68,6 +68,7 @@ pub fn plan_directory(
     requires few { size ≤ 2 ^ 40 }
     ensures place { IfOk result (IsPlace index.now directory.now size range (use_all (space_of space.now) (map span_of used.now))) }
     ensures full { IfErr result (λ fault. (fits_in_place directory.now size range ≡ false) × IsFull fault (fit (use_all (space_of space.now) (map span_of used.now)) (need_of size))) }
+    ensures never { IfErr result HasNoPlace }
 {
     let here = fits_in_place(directory, size, range);
     if here {
@@ -94,6 +95,7 @@ fn patch_tiles(
     ensures patches { Patches of_subblocks directory.now (listed_front listing.now) (listed_middle listing.now) (listed_back listing.now) (marks_of region.new marks.old.items) (marks_of region.new marks.new.items) }
     ensures sized { AreSized region.new marks.old.items → AreSized region.new marks.new.items }
     ensures kept { KeepsPut region.old region.new }
+    ensures region { bytes_held region.new ≡ bytes_held region.old }
     ensures len { vec_len marks.new ≤ vec_len marks.old + 3 }
     ensures capacity { vec_capacity marks.old ≤ vec_capacity marks.new }
 {
@@ -158,6 +160,7 @@ fn write_tiles(
     ensures writes { Writes of_subblocks directory.now (listed listing.now) region.new out.old out.new (marks_of region.new out.old.marks.items) (marks_of region.new out.new.marks.items) }
     ensures sized { AreSized region.new out.old.marks.items → AreSized region.new out.new.marks.items }
     ensures kept { KeepsPut region.old region.new }
+    ensures region { bytes_held region.new ≡ bytes_held region.old }
     ensures len { vec_len out.new.marks ≤ vec_len out.old.marks + 3 }
     ensures memory { KeepsMemory out.old out.new }
 {
@@ -190,6 +193,7 @@ pub fn list_tiles(
     ensures lists { Lists of_subblocks index.now.directory out.old.change.directory (listed_front listing.now) (listed_middle listing.now) (listed_back listing.now) region.new out.old out.new (marks_of region.new out.old.marks.items) (marks_of region.new out.new.marks.items) }
     ensures sized { AreSized region.new out.old.marks.items → AreSized region.new out.new.marks.items }
     ensures kept { KeepsPut region.old region.new }
+    ensures region { bytes_held region.new ≡ bytes_held region.old }
     ensures len { vec_len out.new.marks ≤ vec_len out.old.marks + 3 }
     ensures memory { KeepsMemory out.old out.new }
 {

@@ -74,7 +74,7 @@ pub(crate) fn need_of_edit(directories: usize) -> Need
 }
 
 /// Whether an inverse changes the list of subblocks.
-fn of_subblocks(part: &Part) -> bool
+pub(crate) fn of_subblocks(part: &Part) -> bool
     ensures { result ≡ of_subblocks part.now }
 {
     match part {

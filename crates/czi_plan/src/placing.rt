@@ -6,7 +6,7 @@ ghost use Rattle.czi_format.specs.Span.{end_of};
 ghost use Rattle.czi_image.specs.Applied.{walks_on};
 ghost use Rattle.czi_num.specs.Span.{span_of};
 ghost use Rattle.czi_space.specs.State.{AreExtents, space_of};
-ghost use Rattle.czi_plan.specs.Placing.{IsFull};
+ghost use Rattle.czi_plan.specs.Placing.{HasNoPlace, IsFull};
 
 use crate::plan::PlanFault;
 use czi_image::Index;
@@ -20,6 +20,7 @@ pub fn place(space: &Map, used: &[Span], need: u64) -> Result<Span, PlanFault>
     ensures placed { IfOk result (λ s. fit (use_all (space_of space.now) (map span_of used.now)) need ≡ Ok (record { span = span_of s; space = use_span (use_all (space_of space.now) (map span_of used.now)) (span_of s) })) }
     ensures ends { IfOk result (λ s. end_of (span_of s) ≤ 2 ^ 62) }
     ensures full { IfErr result (λ fault. IsFull fault (fit (use_all (space_of space.now) (map span_of used.now)) need)) }
+    ensures never { IfErr result HasNoPlace }
 {
     match space.first_fit_after(need, used) {
         Place::At(at) => Ok(Span { at, len: need }),

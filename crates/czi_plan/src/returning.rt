@@ -55,8 +55,7 @@ fn info_in(info: &EntryInfo, memory: Records) -> EntryInfo
 pub fn tile_back(info: &EntryInfo, held: &HeldSegment, memory: Records) -> Tile
     requires sound { IsSoundHeld subblock_id held.now }
     requires ends { held.now.span.at + held.now.span.len ≤ 2 ^ 62 }
-    ensures back { IsTileBack info.now held.now result }
-    ensures info { info_of result.info ≡ info_of info.now }
+    ensures { IsTileBack info.now held.now result }
 {
     Tile {
         info: info_in(info, memory),

@@ -1,6 +1,6 @@
 //! The plan of an inverse: what it takes away goes, and what it brings back is linked where it lies. It takes no memory.
 
-ghost use Rattle.std.specs.Prelude.{◌≡◌, ◌+◌, ◌^◌, ◌<◌, ◌≤◌, ◌++◌, ◌∷◌, [], false, length, map, sum, vec_len, vec_capacity, IfErr, IfSome, IsNone, OnOk, Vec};
+ghost use Rattle.std.specs.Prelude.{◌≡◌, ◌+◌, ◌^◌, ◌<◌, ◌≤◌, ◌++◌, ◌∷◌, [], false, length, map, sum, true, vec_len, vec_capacity, IfErr, IfSome, IsNone, OnErr, OnOk, Vec};
 ghost use Rattle.std.specs.Global.{Global as TheGlobal};
 ghost use Rattle.std.specs.List.{AllByRecursion};
 ghost use Rattle.czi_format.specs.Entry.{entry_len as len_of};
@@ -8,7 +8,9 @@ ghost use Rattle.czi_format.specs.Segment.{attachment_id, header_bytes, metadata
 ghost use Rattle.czi_format.specs.Space.{fit};
 ghost use Rattle.czi_image.specs.Change.{AreWithin};
 ghost use Rattle.czi_image.specs.View.{att_item_of, meta_item_of, tile_of};
+ghost use Rattle.czi_image.specs.declared.change.Act.{Act as CodeAct};
 ghost use Rattle.czi_image.specs.declared.change.Setting.TheVariants.{To};
+ghost use Rattle.czi_image.specs.declared.types.Tile.{Tile as CodeTile};
 ghost use Rattle.czi_num.specs.Span.{span_of};
 ghost use Rattle.czi_region.specs.Pieces.{room};
 ghost use Rattle.czi_region.specs.declared.block.Region.{Region as TheRegion};
@@ -18,11 +20,12 @@ ghost use Rattle.czi_plan.specs.Changing.{IsBack, Stages, returned, back_entries
 ghost use Rattle.czi_plan.specs.Conditions.{IsEmpty, IsMapOf};
 ghost use Rattle.czi_plan.specs.Directory.{need_of};
 ghost use Rattle.czi_plan.specs.Kind.{IsOfKind, of_attachments, of_subblocks};
-ghost use Rattle.czi_plan.specs.Listing.{AreSizes, fits_in_place};
+ghost use Rattle.czi_plan.specs.Listing.{AreSizes, bytes_held, fits_in_place};
 ghost use Rattle.czi_plan.specs.Marks.{AddsMarks, AreMarks};
-ghost use Rattle.czi_plan.specs.Need.{HasActMemory, HasMetadataMemory, KeepsMemory, directory_room};
-ghost use Rattle.czi_plan.specs.Placing.{IsFull};
+ghost use Rattle.czi_plan.specs.Need.{HasActMemory, HasMetadataMemory, KeepsMemory, directory_room, of_subblocks as is_of_subblocks};
+ghost use Rattle.czi_plan.specs.Placing.{HasNoPlace, IsFull};
 ghost use Rattle.czi_plan.specs.Plan.{usable_of};
+ghost use Rattle.czi_plan.specs.Undoing.{IsTileAct, PartFits};
 ghost use Rattle.czi_plan.specs.Setting.{IsMetadataBack, StagesMetadata, metadata_brought, metadata_marks, metadata_used};
 
 use crate::attachment_acts::stage_attachment_act;
@@ -33,7 +36,8 @@ use crate::freeing::is_usable;
 use crate::listing::plan_directory;
 use crate::marks::{link, mark_header, mark_pointer};
 use crate::metadata::release_metadata;
-use crate::plan::{EditPlan, PlanFault};
+use crate::plan::{EditPlan, PlanFault, Records};
+use crate::returning::tile_back;
 use crate::spare::put;
 use crate::tiles::{Sizes, sizes_after};
 use czi_dv::entry_len;
@@ -43,6 +47,7 @@ use czi_num::Span;
 use czi_region::Region;
 use czi_seg::SegHeader;
 use czi_space::Map;
+use czi_undo::Part;
 
 /// Links a segment that comes back: its header is a link, and its span is used where it can be used again.
 fn link_back(span: &Span, walked: bool, head: &SegHeader, out: &mut EditPlan)
@@ -99,45 +104,84 @@ fn link_attachment(act: &Act<AttItem>, out: &mut EditPlan)
     }
 }
 
-/// How long the parts of the directory's data are after an act on the subblocks.
-fn tile_sizes(index: &Index, act: &Act<Tile>) -> Sizes
-    requires within { AreWithin (act.now ∷ []) (length index.now.tiles.items) }
-    requires few { length (tiles_before act.now index.now.tiles.items ++ (tiles_brought act.now ++ tiles_behind act.now index.now.tiles.items)) ≤ MOST_SUBBLOCKS }
-    ensures sizes { AreSizes of_subblocks result (front_entries of_subblocks act.now index.now.tiles.items) (middle_entries of_subblocks act.now index.now.tiles.items) (back_entries of_subblocks act.now index.now.tiles.items) }
+/// How long the parts of the directory's data are after an inverse that changes the subblocks.
+fn tile_sizes(index: &Index, space: &Map, part: &Part) -> Sizes
+    requires kind { is_of_subblocks part.now ≡ true }
+    requires fits { PartFits index.now space.now part.now }
+    ensures sizes { (a : CodeAct CodeTile) → IsTileAct part.now a → AreSizes of_subblocks result (front_entries of_subblocks a index.now.tiles.items) (middle_entries of_subblocks a index.now.tiles.items) (back_entries of_subblocks a index.now.tiles.items) }
     ensures bound { result.front + result.middle + result.back ≤ 2 ^ 40 }
 {
     let (tiles, total) = (&index.tiles, index.entries_len());
-    match act {
-        Act::Out(i) => sizes_after(tiles, total, *i, *i + 1, 0),
-        Act::Put(i, tile) => Seat::Over(*i).sizes(tiles, total, entry_len(&tile.info)),
-        Act::Into(i, tile) => Seat::Before(*i).sizes(tiles, total, entry_len(&tile.info)),
+    match part {
+        Part::DropSub { place } => {
+            let i = *place as usize;
+            sizes_after(tiles, total, i, i + 1, 0)
+        }
+        Part::PutSub { place, info, .. } => {
+            Seat::Over(*place as usize).sizes(tiles, total, entry_len(info))
+        }
+        Part::InsertSub { place, info, .. } => {
+            Seat::Before(*place as usize).sizes(tiles, total, entry_len(info))
+        }
+        _ => unreachable!(),
     }
 }
 
-/// Plans an act on the subblocks that brings back what lies in the image, or takes away. Its directory goes where its need fits
-/// first, where it isn't changed in place.
+/// What an inverse that changes the subblocks does with them. The dimensions of one that comes back stand in memory that there is
+/// for them.
+fn tile_act(
+    index: &Index,
+    space: &Map,
+    part: &Part,
+    dimensions: &mut Vec<Records>,
+) -> Act<Tile>
+    requires kind { is_of_subblocks part.now ≡ true }
+    requires fits { PartFits index.now space.now part.now }
+    requires memory { 1 ≤ vec_len dimensions.old }
+    ensures { IsTileAct part.now result }
+{
+    match part {
+        Part::DropSub { place } => Act::Out(*place as usize),
+        Part::PutSub { place, info, held } => {
+            let memory = dimensions.pop().unwrap();
+            Act::Put(*place as usize, tile_back(info, held, memory))
+        }
+        Part::InsertSub { place, info, held } => {
+            let memory = dimensions.pop().unwrap();
+            Act::Into(*place as usize, tile_back(info, held, memory))
+        }
+        _ => unreachable!(),
+    }
+}
+
+/// Plans an inverse that changes the subblocks: it brings back what lies in the image, or takes away. Its directory goes where its
+/// need fits first, where it isn't changed in place. Where it has no place nothing is planned, and no memory is used up.
 pub fn plan_tiles(
     index: &Index,
     space: &Map,
-    act: Act<Tile>,
+    part: &Part,
     region: &mut Region,
     out: &mut EditPlan,
 ) -> Result<(), PlanFault>
     requires empty { IsEmpty out.old }
     requires of_index { IsMapOf index.now space.now }
-    requires within { AreWithin (act ∷ []) (length index.now.tiles.items) }
-    requires few { length (tiles_before act index.now.tiles.items ++ (tiles_brought act ++ tiles_behind act index.now.tiles.items)) ≤ MOST_SUBBLOCKS }
-    requires back { AllByRecursion (IsBack of_subblocks index.now space.now) (tiles_brought act) }
-    requires room { directory_room (size_after of_subblocks act index.now) ≤ room region.old }
+    requires kind { is_of_subblocks part.now ≡ true }
+    requires fits { PartFits index.now space.now part.now }
+    requires room { (a : CodeAct CodeTile) → IsTileAct part.now a → directory_room (size_after of_subblocks a index.now) ≤ room region.old }
     requires writes_room { vec_len out.old.writes < vec_capacity out.old.writes }
     requires memory { HasActMemory out.old }
-    ensures stages { OnOk result (Stages of_subblocks index.now space.now act returned region.new out.new.change.directory out.new) }
-    ensures full { IfErr result (λ fault. (fits_in_place index.now.directory (size_after of_subblocks act index.now) (range_after of_subblocks act index.now) ≡ false) × IsFull fault (fit (space_of space.now) (need_of (size_after of_subblocks act index.now)))) }
+    requires dimensions { 1 ≤ vec_len out.old.dimensions }
+    ensures stages { OnOk result ((a : CodeAct CodeTile) × IsTileAct part.now a × Stages of_subblocks index.now space.now a returned region.new out.new.change.directory out.new) }
+    ensures full { IfErr result (λ fault. (a : CodeAct CodeTile) → IsTileAct part.now a → (fits_in_place index.now.directory (size_after of_subblocks a index.now) (range_after of_subblocks a index.now) ≡ false) × IsFull fault (fit (space_of space.now) (need_of (size_after of_subblocks a index.now)))) }
+    ensures never { IfErr result HasNoPlace }
+    ensures left { OnErr result ((region.new ≡ region.old) × (out.new ≡ record out.old { length = out.new.length })) }
+    ensures region { bytes_held region.new ≡ bytes_held region.old }
 {
     out.length = space.length();
-    let sizes = tile_sizes(index, &act);
+    let sizes = tile_sizes(index, space, part);
     let (size, range) = (sizes.total(), sizes.middle);
     out.change.directory = plan_directory(index, space, &[], &index.directory, size, range)?;
+    let act = tile_act(index, space, part, &mut out.dimensions);
     link_tile(&act, out);
     stage_act(index, space, act, &sizes, region, out);
     Ok(())
@@ -161,6 +205,9 @@ pub fn plan_attachments(
     requires memory { HasActMemory out.old }
     ensures stages { OnOk result (Stages of_attachments index.now space.now act returned region.new out.new.change.attdir out.new) }
     ensures full { IfErr result (λ fault. (fits_in_place index.now.attdir (size_after of_attachments act index.now) (range_after of_attachments act index.now) ≡ false) × IsFull fault (fit (space_of space.now) (need_of (size_after of_attachments act index.now)))) }
+    ensures never { IfErr result HasNoPlace }
+    ensures left { OnErr result ((region.new ≡ region.old) × (out.new ≡ record out.old { length = out.new.length })) }
+    ensures region { bytes_held region.new ≡ bytes_held region.old }
 {
     out.length = space.length();
     let parts = att_parts(&act, &index.attachments);

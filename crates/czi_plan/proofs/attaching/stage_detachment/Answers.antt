@@ -16,4 +16,4 @@ pub stage_attachment_act-requires-clause-memory : goal.stage_attachment_act-requ
 stage_attachment_act-requires-clause-memory c = memory_of 1 1 0 1 c.args.out.now c.requires.spare
 
 pub returns : goal.returns
-returns c = c.stage_attachment_act.ensures (edited (taken_out c.args.i)) (begins_out of_attachments c.args.index.now c.args.space.now c.args.region.now c.args.i _ c.args.out.now c.requires.starts c.requires.no_writes c.requires.place)
+returns c = c.stage_attachment_act.ensures.stages (edited (taken_out c.args.i)) (begins_out of_attachments c.args.index.now c.args.space.now c.args.region.now c.args.i _ c.args.out.now c.requires.starts c.requires.no_writes c.requires.place)

@@ -54,4 +54,4 @@ returns c =
     let begins = begins_at of_attachments x m c.stage_attachment.new.region c.args.seat s i i.span d _ c.args.out.now c.stage_attachment.new.out refl same c.requires.starts staged.used staged.end staged.others
     (is_new_item x m i c.args.bytes.now c.requires.item c.requires.walked staged.says c.requires.fits) staged.staged c.requires.place in
     subst (λ (a : CodeAct AttItem). Stages of_attachments x m a o c.stage_attachment_act.new.region d c.stage_attachment_act.new.out) c.act-act.ensures
-    (subst (λ (e : DirectoryChange). Stages of_attachments x m c.act-act.result o c.stage_attachment_act.new.region e c.stage_attachment_act.new.out) same (c.stage_attachment_act.ensures o (rw c.act-act.ensures begins)))
+    (subst (λ (e : DirectoryChange). Stages of_attachments x m c.act-act.result o c.stage_attachment_act.new.region e c.stage_attachment_act.new.out) same (c.stage_attachment_act.ensures.stages o (rw c.act-act.ensures begins)))

@@ -108,8 +108,8 @@ link-requires-clause-can c =
       c.release_left.ensures.dead ∙ left_as of_attachments dead_of a d _ x _ left same,
     ) (links_act att_laws a c.requires.begins.0 d c.args.region.now c.list_attachments.new.region c.args.out.now c.list_attachments.new.out (marks_of c.list_attachments.new.region c.list_attachments.new.out.marks.items) c.requires.of_index c.requires.begins.1 c.list_attachments.ensures.kept lists)
 
-pub returns : goal.returns
-returns c =
+pub returns-clause-stages : goal.returns-clause-stages
+returns-clause-stages c =
     λ o begins.
     let x : Index = c.args.index.now in
     let a : CodeAct AttItem = c.args.act in

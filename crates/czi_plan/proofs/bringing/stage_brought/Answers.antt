@@ -77,4 +77,4 @@ returns c =
     (rw c.requires.tile.span_is at staged.used) (rw c.requires.tile.span_is at staged.end) staged.others (is_new x m s i.span t c.requires.tile c.requires.walked staged.item c.requires.fits) staged.staged
     (place_at of_subblocks x i.seat t i.sizes (use_span (space_of m) (span_of i.span)) d sizes c.requires.place) in
     subst (λ (a : CodeAct Tile). Stages of_subblocks x m a o c.stage_act.new.region d c.stage_act.new.out) c.act-act.ensures (subst (λ (e : DirectoryChange). Stages of_subblocks x m c.act-act.result o c.stage_act.new.region e c.stage_act.new.out) same
-    (c.stage_act.ensures o (rw c.act-act.ensures begins)))
+    (c.stage_act.ensures.stages o (rw c.act-act.ensures begins)))

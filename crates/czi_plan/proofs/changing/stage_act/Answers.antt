@@ -146,8 +146,8 @@ link-requires-clause-can c =
       c.release_left.ensures.dead ∙ left_as of_subblocks dead_of a d _ x _ left same,
     ) (links_act tile_laws a c.requires.begins.0 d c.args.region.now c.list_tiles.new.region c.args.out.now c.list_tiles.new.out (marks_of c.list_tiles.new.region c.list_tiles.new.out.marks.items) c.requires.of_index c.requires.begins.1 c.list_tiles.ensures.kept lists)
 
-pub returns : goal.returns
-returns c =
+pub returns-clause-stages : goal.returns-clause-stages
+returns-clause-stages c =
     λ o begins.
     let x : Index = c.args.index.now in
     let a : CodeAct Tile = c.args.act in

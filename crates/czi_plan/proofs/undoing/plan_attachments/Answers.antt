@@ -65,6 +65,11 @@ returns-in_err-out-clause-full c =
     let size : c.total-size.result ≡ size_after of_attachments c.args.act x = c.total-size.ensures ∙ sizes_total of_attachments c.att_sizes-sizes.result _ _ _ are in
     rw (p.1, p.2) ((λ j. fits_in_place x.attdir (sym size j) (sym are.middle_is j)) ∙ c.in_err-out.ensures.full.0, subst (λ n. IsFull c.in_err-out.field-0.0 (fit (space_of c.args.space.now) (need_of n))) size c.in_err-out.ensures.full.1)
 
+pub returns-in_err-out-clause-never : goal.returns-in_err-out-clause-never
+returns-in_err-out-clause-never c =
+    let p = err_from_is_err_and c.from_residual.result c.from_residual.ensures.1 in
+    rw (p.1, p.2) c.in_err-out.ensures.never
+
 pub returns-clause-stages : goal.returns-clause-stages
 returns-clause-stages c =
     let x : Index = c.args.index.now in
@@ -73,5 +78,5 @@ returns-clause-stages c =
     let place = place_as of_attachments x m c.args.act c.att_sizes-sizes.result c.total-size.result c.in_ok-out.field-0 (sizes_for c.args.act _ c.args.index.now.attachments.items c.att_parts-parts.result c.att_sizes-sizes.result c.deref.ensures.value c.att_parts-parts.ensures c.att_sizes-sizes.ensures.sizes) c.total-size.ensures c.in_ok-out.ensures.place in
     let begins = subst (λ (d : DirectoryChange). Begins of_attachments x m c.args.region.now c.args.act returned d c.link_attachment.new.out) (sym (ap (λ (p : EditPlan). p.change.attdir) linked.others))
     (attachments_back x m c.args.region.now c.args.act c.args.out.now c.link_attachment.new.out c.length-out.result c.in_ok-out.field-0 c.requires.of_index c.requires.empty c.length-out.ensures linked.others linked.used c.requires.back place) in
-    let stages = c.stage_attachment_act.ensures returned begins in
+    let stages = c.stage_attachment_act.ensures.stages returned begins in
     subst (λ (d : DirectoryChange). Stages of_attachments x m c.args.act returned c.stage_attachment_act.new.region d c.stage_attachment_act.new.out) (sym stages.change.attdir) stages
