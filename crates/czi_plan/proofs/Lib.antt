@@ -30,3 +30,4 @@ pub mod Inverses
 pub mod Fitting
 pub mod Spared
 pub mod Found
+pub mod Needing

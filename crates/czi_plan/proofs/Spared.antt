@@ -130,7 +130,7 @@ others_fit (Out i) items = omega (arith, split_len i items, behind_less i items)
 others_fit (Put i t) items = omega (arith, split_len i items, behind_less i items)
 others_fit (Into i t) items = omega (arith, split_len i items)
 
-room_rises : (n n' : ℕ) → n ≤ n' → directory_room n ≤ directory_room n'
+pub room_rises : (n n' : ℕ) → n ≤ n' → directory_room n ≤ directory_room n'
 room_rises n n' h = omega (arith, h)
 
 pub room_tiles : (x : Index) (parts : List Part) (part : Part) (a : CodeAct Tile) (n room : ℕ) → parts ≡ part ∷ [] → IsTileAct part a

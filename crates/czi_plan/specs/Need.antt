@@ -1,5 +1,5 @@
 -- How much the plan of an inverse takes.
-use Rattle.std.specs.Prelude.{◌≡◌, ℕ, ◌+◌, ◌*◌, ◌≤◌, List, map, length, sum, Bool, true, false, if◌then◌else◌}
+use Rattle.std.specs.Prelude.{◌≡◌, ℕ, ◌+◌, ◌*◌, ◌≤◌, List, [], ◌∷◌, map, max, length, sum, Bool, true, false, if◌then◌else◌}
 use Rattle.std.specs.List.{list_any}
 use Rattle.std.specs.Vec.{vec_len, vec_capacity}
 use Rattle.czi_doc.specs.View.{dims_of}
@@ -9,7 +9,7 @@ use Rattle.czi_undo.specs.declared.inverse.Part.{Part}
 use Rattle.czi_undo.specs.declared.inverse.Part.TheVariants.{DropSub, PutSub, InsertSub, DropAtt, PutAtt, InsertAtt, NoMeta, PutMeta, Same}
 use Rattle.czi_plan.specs.declared.need.Need.{Need}
 use Rattle.czi_plan.specs.declared.plan.EditPlan.{EditPlan}
-use Rattle.czi_format.specs.declared.numbers.TheConstants.{A1_LEN, ATTDIR_FRONT, DIRECTORY_FRONT}
+use Rattle.czi_format.specs.declared.numbers.TheConstants.{A1_LEN, ATTDIR_FRONT, DIRECTORY_FRONT, LONGEST_ENTRY}
 
 -- an inverse changes the list of subblocks, or that of attachments
 abbrev pub of_subblocks : Part → Bool
@@ -104,6 +104,28 @@ pub record IsWithin (n m : Need) : Type 0 where
 abbrev pub NeedsRise : Type 0
 NeedsRise = (parts : List Part) (e e' a a' : ℕ) → e ≤ e' → a ≤ a' → IsWithin (need_by parts e a) (need_by parts e' a')
 
+-- What one undo of a single edit takes at most, whatever the index is, but for its region.
+abbrev pub need_of_undo : Need
+need_of_undo = need_of_lists 1 1 0 1
+
+abbrev pub without_region : Need → Need
+without_region n = record n { region = 0 }
+
+abbrev pub UndosNeedNoMore : Type 0
+UndosNeedNoMore = (part : Part) (e a : ℕ) → IsWithin (without_region (need_by (part ∷ []) e a)) need_of_undo
+
+-- The bytes of a region that suffice for each of so many undos of single edits, one after another, where before the first of them
+-- the entries have so many bytes, and there are so many attachments: none of them makes a list longer by more than one entry.
+abbrev pub undo_room : (entries attachments more : ℕ) → ℕ
+undo_room entries attachments more = max (directory_room (DIRECTORY_FRONT + entries + LONGEST_ENTRY * more)) (directory_room (ATTDIR_FRONT + A1_LEN * (attachments + more)))
+
+abbrev pub UndosHaveRoom : Type 0
+UndosHaveRoom = (part : Part) (e e' a a' more : ℕ) → e' + LONGEST_ENTRY ≤ e + LONGEST_ENTRY * more → a' + 1 ≤ a + more → region_by (part ∷ []) e' a' ≤ undo_room e a more
+
+-- it doesn't fall where one of its numbers rises
+abbrev pub UndoRoomRises : Type 0
+UndoRoomRises = (e e' a a' n n' : ℕ) → e ≤ e' → a ≤ a' → n ≤ n' → undo_room e a n ≤ undo_room e' a' n'
+
 -- A plan has spare memory for a need: also for as many items that come back, and for the dimensions of as many subblocks.
 pub record HasSpare (n : Need) (p : EditPlan) : Type 0 where
   pub writes : vec_len p.writes + n.writes ≤ vec_capacity p.writes
@@ -118,6 +140,10 @@ pub record HasSpare (n : Need) (p : EditPlan) : Type 0 where
   pub marks : vec_len p.marks + n.links ≤ vec_capacity p.marks
   pub dead : vec_len p.dead + n.spans ≤ vec_capacity p.dead
   pub touched : n.touched ≤ p.touched.spare
+
+-- so it has it for one that is no greater, but for the region
+abbrev pub SparesLess : Type 0
+SparesLess = (n m : Need) (p : EditPlan) → HasSpare m p → IsWithin (without_region n) m → HasSpare n p
 
 -- It has memory for so many links with so many bytes, and for so many spans of each kind, of which some may be put already.
 pub record HasMemory (count size spans : ℕ) (p : EditPlan) : Type 0 where

@@ -40,7 +40,7 @@ pub use inverse_plan::plan_inverse;
 pub use laws::newest_fits;
 pub use metadata::plan_set_meta;
 pub use names::{attachment_key, attachment_with};
-pub use need::{Need, need_of_inverse};
+pub use need::{Need, need_of_inverse, need_of_undo, room_for_undos};
 pub use plan::{EditPlan, PlanFault, Records};
 pub use removal::{plan_remove, plan_remove_at};
 pub use replacing::{plan_replace, plan_replace_at};

@@ -4,11 +4,11 @@ ghost use Rattle.std.specs.Prelude.{◌≡◌, ◌+◌, ◌*◌, ◌^◌, ◌≤
 ghost use Rattle.czi_format.specs.Entry.{entry_len as len_of};
 ghost use Rattle.czi_image.specs.View.{tile_of};
 ghost use Rattle.czi_image.specs.Summary.{entries_len};
-ghost use Rattle.czi_plan.specs.Need.{NeedsRise, brought_by, brought_len, changes_attachments, changes_tiles, directories_by, directory_room, need_by, need_of_lists, of_attachments, of_subblocks, region_by};
+ghost use Rattle.czi_plan.specs.Need.{NeedsRise, SparesLess, UndoRoomRises, UndosHaveRoom, UndosNeedNoMore, brought_by, brought_len, changes_attachments, changes_tiles, directories_by, directory_room, need_by, need_of_lists, need_of_undo, of_attachments, of_subblocks, region_by, undo_room};
 
 use crate::listing::{LONGEST_RANGE, with_slack};
 use czi_dv::entry_len;
-use czi_format::{A1_LEN, ATTDIR_FRONT, DIRECTORY_FRONT};
+use czi_format::{A1_LEN, ATTDIR_FRONT, DIRECTORY_FRONT, LONGEST_ENTRY};
 use czi_image::Index;
 use czi_num::round32;
 use czi_undo::{Inverse, Part};
@@ -172,4 +172,26 @@ pub fn need_of_inverse(index: &Index, inverse: &Inverse) -> Need
     let directories = changes_tiles(parts) as usize + changes_attachments(parts) as usize;
     let region = region_by(parts, index.entries_len(), index.attachments.len());
     need_of_lists(parts.len(), directories, region, directories)
+}
+
+/// How much the plan of one undo of a single edit takes at most, whatever the index is, but for its region.
+pub fn need_of_undo() -> Need
+    ensures need { result ≡ need_of_undo }
+    ensures most { UndosNeedNoMore }
+    ensures spared { SparesLess }
+{
+    need_of_lists(1, 1, 0, 1)
+}
+
+/// How many bytes of a region suffice for each of so many undos of single edits, one after another, on an index and on those that
+/// the undos make of it.
+pub fn room_for_undos(index: &Index, more: usize) -> usize
+    requires { more ≤ 128 }
+    ensures room { result ≡ undo_room (entries_len (map tile_of index.now.tiles.items)) (length index.now.attachments.items) more }
+    ensures suffices { UndosHaveRoom }
+    ensures rises { UndoRoomRises }
+{
+    let tiles = directory_room(DIRECTORY_FRONT + index.entries_len() + LONGEST_ENTRY * more);
+    let attachments = directory_room(ATTDIR_FRONT + A1_LEN * (index.attachments.len() + more));
+    tiles.max(attachments)
 }
