@@ -1,10 +1,8 @@
 -- The plan of an act is brief, and so is that of a setting of the metadata.
-use Rattle.std.proofs.Common.{◌≡◌, ℕ, ◌+◌, ◌≤◌, List, [], ◌∷◌, ◌++◌, map, length, length-append, Option, Some, None, option_map, option_to_list, ap, ◌∙◌, arith}
+use Rattle.std.proofs.Common.{◌≤◌, length, length-append, Option, Some, None, ap, arith}
 use Rattle.std.proofs.lemmas.List.{length-map}
 use Rattle.czi_format.specs.Document.{Attachment, Metadata, Subblock}
-use Rattle.czi_image.specs.Holds.{directory_place}
 use Rattle.czi_image.specs.declared.change.Act.{Act as CodeAct}
-use Rattle.czi_image.specs.declared.change.Change.{Change as CodeChange}
 use Rattle.czi_image.specs.declared.change.DirectoryChange.{DirectoryChange}
 use Rattle.czi_image.specs.declared.change.DirectoryChange.TheVariants.{Kept, New, Patched}
 use Rattle.czi_image.specs.declared.change.Setting.{Setting as CodeSetting}
@@ -21,9 +19,9 @@ use Rattle.czi_region.specs.declared.block.Region.{Region}
 use Rattle.czi_space.specs.State.{MapState}
 use Rattle.czi_plan.specs.Changing.{Origin, Stages, all_left, items_left, tiles_leaving, used_in}
 use Rattle.czi_plan.specs.Conditions.{IsMapOf}
-use Rattle.czi_plan.specs.Kind.{ActsOnAttachments, ActsOnTiles, Kind, of_attachments, of_subblocks}
+use Rattle.czi_plan.specs.Kind.{Kind, of_attachments, of_subblocks}
 use Rattle.czi_plan.specs.Plan.{IsBrief, left_directory, usable_of}
-use Rattle.czi_plan.specs.Setting.{StagesMetadata, metadata_left, metadata_used}
+use Rattle.czi_plan.specs.Setting.{StagesMetadata, metadata_left}
 use Rattle.czi_plan.specs.declared.plan.EditPlan.{EditPlan}
 use Rattle.czi_plan.proofs.Brief.{length-sorted, spans_both}
 use Rattle.czi_plan.proofs.Changed.{changes_of}

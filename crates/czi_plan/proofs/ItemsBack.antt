@@ -53,28 +53,30 @@ held_tile info h sound' ends' =
     let head : SegHeader = record { id = Subblock; allocated = s.allocated; used = s.used } in
     let place : s.at ≡ 0 = (header_is_read h.head 0 s sound'.head).place in
     let same : s ≡ header_of 0 head = λ j. record { at = place j; id = sound'.named j; allocated = s.allocated; used = s.used } in
-    let reads : header_at h.head 0 ≡ Some (header_of 0 head) = sound'.head ∙ ap (λ (z : Segment). Some z) same in
-    (record {
-      info = info;
-      span = h.span;
-      head = head;
-      walked = h.walked;
-      begin = h.begin;
-      meta = slice_index_or h.sizes 0 0;
-      pixels = slice_index_or h.sizes 1 0;
-      tail = slice_index_or h.sizes 2 0;
-      extent = sound'.extent;
-      sound = sound'.sound;
-      ends = ends';
-      begins = sound'.begins;
-      contents = sound'.contents;
-    }, record {
-      span = refl;
-      walked = refl;
-      says = refl;
-      own = (refl, sound'.sound);
-      item = λ y is kind position. tile_is info info h head y refl ends' reads is kind position;
-    })
+    let reads : header_at h.head 0 ≡ Some (header_of 0 head) = sound'.head ∙ ap (λ (z : Segment). Some z) same in (
+      record {
+        info = info;
+        span = h.span;
+        head = head;
+        walked = h.walked;
+        begin = h.begin;
+        meta = slice_index_or h.sizes 0 0;
+        pixels = slice_index_or h.sizes 1 0;
+        tail = slice_index_or h.sizes 2 0;
+        extent = sound'.extent;
+        sound = sound'.sound;
+        ends = ends';
+        begins = sound'.begins;
+        contents = sound'.contents;
+      },
+      record {
+        span = refl;
+        walked = refl;
+        says = refl;
+        own = (refl, sound'.sound);
+        item = λ y is kind position. tile_is info info h head y refl ends' reads is kind position;
+      },
+    )
 
 pub attachment_is : (i : CodeAttInfo) (h : CodeHeld) (head : SegHeader) (y : Lain AttItem) → h.span.at + h.span.len ≤ 2 ^ 62 → header_at h.head 0 ≡ Some (header_of 0 head)
     → IsAttachment i h y → IsOfKind attachment_id y.item.segment → y.item.entry.position ≡ pos y.item.segment.at

@@ -9,7 +9,7 @@ ghost use Rattle.czi_region.specs.Pieces.{bytes_put};
 ghost use Rattle.czi_plan.specs.Bringing.{subblock_in};
 ghost use Rattle.czi_plan.specs.Conditions.{IsEmpty, IsMapOf};
 ghost use Rattle.czi_plan.specs.Does.{Does, HasNoPlan};
-ghost use Rattle.czi_plan.specs.Plan.{IsPlan};
+ghost use Rattle.czi_plan.specs.Plan.{IsBrief, IsPlan};
 
 use crate::bringing::{Seat, plan_brought};
 use crate::plan::{EditPlan, PlanFault};
@@ -51,6 +51,7 @@ pub fn plan_add(
     ensures plan { OnOk result (IsPlan index.now space.now region.new out.new) }
     ensures does { OnOk result (Does index.now space.now region.new out.new (in_subblocks (into (length index.now.tiles.items) (subblock_in info.now meta.now pixels.now tail.now)))) }
     ensures held { OnOk result (length out.new.held.items ≤ 1) }
+    ensures brief { OnOk result (IsBrief out.new) }
     ensures full { IfErr result (HasNoPlan index.now space.now (in_subblocks (into (length index.now.tiles.items) (subblock_in info.now meta.now pixels.now tail.now)))) }
 {
     let new = NewSubblock::new(info, meta, pixels, tail);

@@ -18,7 +18,7 @@ ghost use Rattle.czi_plan.specs.Does.{Does, HasNoPlan};
 ghost use Rattle.czi_plan.specs.Kind.{of_attachments};
 ghost use Rattle.czi_plan.specs.Listing.{HasRoomFor, IsPlace};
 ghost use Rattle.czi_plan.specs.Need.{HasSpare, need_of_lists};
-ghost use Rattle.czi_plan.specs.Plan.{IsPlan};
+ghost use Rattle.czi_plan.specs.Plan.{IsBrief, IsPlan};
 ghost use Rattle.czi_plan.specs.Search.{attachment_with};
 
 use crate::attachment_acts::{new_attachment, stage_attached, stage_attachment_act};
@@ -71,6 +71,7 @@ pub fn plan_detach_at(
     ensures plan { OnOk result (IsPlan index.now space.now region.new out.new) }
     ensures does { OnOk result (Does index.now space.now region.new out.new (in_attachments (taken_out i))) }
     ensures held { OnOk result (length out.new.held.items ≤ 1) }
+    ensures brief { OnOk result (IsBrief out.new) }
     ensures full { IfErr result (HasNoPlan index.now space.now (in_attachments (taken_out i))) }
 {
     out.length = space.length();
@@ -104,6 +105,7 @@ fn plan_attached(
     ensures plan { OnOk result (IsPlan index.now space.now region.new out.new) }
     ensures does { OnOk result (Does index.now space.now region.new out.new (in_attachments (act_of (act_at seat (attachment_in info.now bytes.now))))) }
     ensures held { OnOk result (length out.new.held.items ≤ 1) }
+    ensures brief { OnOk result (IsBrief out.new) }
     ensures full { IfErr result (HasNoPlan index.now space.now (in_attachments (act_of (act_at seat (attachment_in info.now bytes.now))))) }
 {
     out.length = space.length();
@@ -147,6 +149,7 @@ pub fn plan_attach(
     ensures plan { OnOk result (IsPlan index.now space.now region.new out.new) }
     ensures does { OnOk result (Does index.now space.now region.new out.new (in_attachments (into (length index.now.attachments.items) (attachment_in info.now bytes.now)))) }
     ensures held { OnOk result (length out.new.held.items ≤ 1) }
+    ensures brief { OnOk result (IsBrief out.new) }
     ensures full { IfErr result (HasNoPlan index.now space.now (in_attachments (into (length index.now.attachments.items) (attachment_in info.now bytes.now)))) }
 {
     let seat = Seat::Before(index.attachments.len());
@@ -176,6 +179,7 @@ pub fn plan_reattach_at(
     ensures plan { OnOk result (IsPlan index.now space.now region.new out.new) }
     ensures does { OnOk result (Does index.now space.now region.new out.new (in_attachments (put i (attachment_in info.now bytes.now)))) }
     ensures held { OnOk result (length out.new.held.items ≤ 1) }
+    ensures brief { OnOk result (IsBrief out.new) }
     ensures full { IfErr result (HasNoPlan index.now space.now (in_attachments (put i (attachment_in info.now bytes.now)))) }
 {
     plan_attached(index, space, Seat::Over(i), info, bytes, region, out)
@@ -208,6 +212,7 @@ pub fn plan_reattach(
     ensures plan { OnOk result (IsPlan index.now space.now region.new out.new) }
     ensures does { OnOk result ((i : ℕ) → attachment_with (attachment_key (att_of info.now)) (map att_item_of index.now.attachments.items) ≡ Some i → Does index.now space.now region.new out.new (in_attachments (put i (attachment_in info.now bytes.now)))) }
     ensures held { OnOk result (length out.new.held.items ≤ 1) }
+    ensures brief { OnOk result (IsBrief out.new) }
     ensures full { IfErr result (λ fault. (i : ℕ) → attachment_with (attachment_key (att_of info.now)) (map att_item_of index.now.attachments.items) ≡ Some i → HasNoPlan index.now space.now (in_attachments (put i (attachment_in info.now bytes.now))) fault) }
 {
     let i = attachment_with(index, attachment_key(info)).unwrap();
@@ -239,6 +244,7 @@ pub fn plan_detach(
     ensures plan { OnOk result (IsPlan index.now space.now region.new out.new) }
     ensures does { OnOk result ((i : ℕ) → attachment_with name.now (map att_item_of index.now.attachments.items) ≡ Some i → Does index.now space.now region.new out.new (in_attachments (taken_out i))) }
     ensures held { OnOk result (length out.new.held.items ≤ 1) }
+    ensures brief { OnOk result (IsBrief out.new) }
     ensures full { IfErr result (λ fault. (i : ℕ) → attachment_with name.now (map att_item_of index.now.attachments.items) ≡ Some i → HasNoPlan index.now space.now (in_attachments (taken_out i)) fault) }
 {
     let i = attachment_with(index, name).unwrap();

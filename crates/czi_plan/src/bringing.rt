@@ -19,7 +19,7 @@ ghost use Rattle.czi_plan.specs.Does.{Does, HasNoPlan};
 ghost use Rattle.czi_plan.specs.Directory.{entries_of};
 ghost use Rattle.czi_plan.specs.Listing.{HasRoomFor, IsPlace};
 ghost use Rattle.czi_plan.specs.Need.{HasSpare, need_of_lists};
-ghost use Rattle.czi_plan.specs.Plan.{IsPlan};
+ghost use Rattle.czi_plan.specs.Plan.{IsBrief, IsPlan};
 ghost use Rattle.czi_plan.specs.Kind.{of_subblocks};
 
 use crate::changing::{stage_act, take_memory};
@@ -130,6 +130,7 @@ pub fn plan_brought(
     ensures plan { OnOk result (IsPlan index.now space.now region.new out.new) }
     ensures does { OnOk result (Does index.now space.now region.new out.new (in_subblocks (act_of (act_at seat (subblock_of new.now))))) }
     ensures held { OnOk result (length out.new.held.items ≤ 1) }
+    ensures brief { OnOk result (IsBrief out.new) }
     ensures full { IfErr result (HasNoPlan index.now space.now (in_subblocks (act_of (act_at seat (subblock_of new.now))))) }
 {
     out.length = space.length();

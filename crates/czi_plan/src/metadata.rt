@@ -22,7 +22,7 @@ ghost use Rattle.czi_plan.specs.Conditions.{IsEmpty, IsMapOf};
 ghost use Rattle.czi_plan.specs.Does.{Does, HasNoPlan};
 ghost use Rattle.czi_plan.specs.Marks.{AreMarks};
 ghost use Rattle.czi_plan.specs.Need.{HasMetadataMemory, HasSpare, need_of_lists};
-ghost use Rattle.czi_plan.specs.Plan.{IsPlan, dead_of, usable_of};
+ghost use Rattle.czi_plan.specs.Plan.{IsBrief, IsPlan, dead_of, usable_of};
 ghost use Rattle.czi_plan.specs.Setting.{IsMetaItemOf, IsPlacedIn, IsStagedIn, StagesMetadata, metadata_marks, metadata_of};
 
 use crate::freeing::release;
@@ -155,6 +155,7 @@ pub fn plan_set_meta(
     ensures plan { OnOk result (IsPlan index.now space.now region.new out.new) }
     ensures does { OnOk result (Does index.now space.now region.new out.new (to_metadata (metadata_in xml.now tail.now))) }
     ensures held { OnOk result (length out.new.held.items ≤ 1) }
+    ensures brief { OnOk result (IsBrief out.new) }
     ensures full { IfErr result (HasNoPlan index.now space.now (to_metadata (metadata_in xml.now tail.now))) }
 {
     let new = NewMetadata { xml, tail };

@@ -12,7 +12,7 @@ ghost use Rattle.czi_plan.specs.Conditions.{IsEmpty, IsMapOf};
 ghost use Rattle.czi_plan.specs.Does.{Does, HasNoPlan};
 ghost use Rattle.czi_plan.specs.Listing.{AreSizes, HasRoomFor, IsPlace};
 ghost use Rattle.czi_plan.specs.Need.{HasSpare, need_of_lists};
-ghost use Rattle.czi_plan.specs.Plan.{IsPlan};
+ghost use Rattle.czi_plan.specs.Plan.{IsBrief, IsPlan};
 ghost use Rattle.czi_plan.specs.Search.{tile_with};
 ghost use Rattle.czi_space.specs.State.{space_of};
 ghost use Rattle.czi_plan.specs.Kind.{of_subblocks};
@@ -70,6 +70,7 @@ pub fn plan_remove_at(
     ensures plan { OnOk result (IsPlan index.now space.now region.new out.new) }
     ensures does { OnOk result (Does index.now space.now region.new out.new (in_subblocks (taken_out i))) }
     ensures held { OnOk result (length out.new.held.items ≤ 1) }
+    ensures brief { OnOk result (IsBrief out.new) }
     ensures full { IfErr result (HasNoPlan index.now space.now (in_subblocks (taken_out i))) }
 {
     out.length = space.length();
@@ -110,6 +111,7 @@ pub fn plan_remove(
     ensures plan { OnOk result (IsPlan index.now space.now region.new out.new) }
     ensures does { OnOk result ((i : ℕ) → tile_with (dims_of dims.now) (map tile_of index.now.tiles.items) ≡ Some i → Does index.now space.now region.new out.new (in_subblocks (taken_out i))) }
     ensures held { OnOk result (length out.new.held.items ≤ 1) }
+    ensures brief { OnOk result (IsBrief out.new) }
     ensures full { IfErr result (λ fault. (i : ℕ) → tile_with (dims_of dims.now) (map tile_of index.now.tiles.items) ≡ Some i → HasNoPlan index.now space.now (in_subblocks (taken_out i)) fault) }
 {
     let i = tile_with(index, dims).unwrap();

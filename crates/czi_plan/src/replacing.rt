@@ -11,7 +11,7 @@ ghost use Rattle.czi_region.specs.Pieces.{bytes_put};
 ghost use Rattle.czi_plan.specs.Bringing.{subblock_in};
 ghost use Rattle.czi_plan.specs.Conditions.{IsEmpty, IsMapOf};
 ghost use Rattle.czi_plan.specs.Does.{Does, HasNoPlan};
-ghost use Rattle.czi_plan.specs.Plan.{IsPlan};
+ghost use Rattle.czi_plan.specs.Plan.{IsBrief, IsPlan};
 ghost use Rattle.czi_plan.specs.Search.{tile_with};
 
 use crate::bringing::{Seat, plan_brought};
@@ -50,6 +50,7 @@ pub fn plan_replace_at(
     ensures plan { OnOk result (IsPlan index.now space.now region.new out.new) }
     ensures does { OnOk result (Does index.now space.now region.new out.new (in_subblocks (put i (subblock_in info.now meta.now pixels.now tail.now)))) }
     ensures held { OnOk result (length out.new.held.items ≤ 1) }
+    ensures brief { OnOk result (IsBrief out.new) }
     ensures full { IfErr result (HasNoPlan index.now space.now (in_subblocks (put i (subblock_in info.now meta.now pixels.now tail.now)))) }
 {
     let new = NewSubblock::new(info, meta, pixels, tail);
@@ -88,6 +89,7 @@ pub fn plan_replace(
     ensures plan { OnOk result (IsPlan index.now space.now region.new out.new) }
     ensures does { OnOk result ((i : ℕ) → tile_with (dims_of info.now.dims) (map tile_of index.now.tiles.items) ≡ Some i → Does index.now space.now region.new out.new (in_subblocks (put i (subblock_in info.now meta.now pixels.now tail.now)))) }
     ensures held { OnOk result (length out.new.held.items ≤ 1) }
+    ensures brief { OnOk result (IsBrief out.new) }
     ensures full { IfErr result (λ fault. (i : ℕ) → tile_with (dims_of info.now.dims) (map tile_of index.now.tiles.items) ≡ Some i → HasNoPlan index.now space.now (in_subblocks (put i (subblock_in info.now meta.now pixels.now tail.now))) fault) }
 {
     let i = tile_with(index, &info.dims).unwrap();

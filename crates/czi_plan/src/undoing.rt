@@ -129,12 +129,7 @@ fn tile_sizes(index: &Index, space: &Map, part: &Part) -> Sizes
 
 /// What an inverse that changes the subblocks does with them. The dimensions of one that comes back stand in memory that there is
 /// for them.
-fn tile_act(
-    index: &Index,
-    space: &Map,
-    part: &Part,
-    dimensions: &mut Vec<Records>,
-) -> Act<Tile>
+fn tile_act(index: &Index, space: &Map, part: &Part, dimensions: &mut Vec<Records>) -> Act<Tile>
     requires kind { is_of_subblocks part.now ≡ true }
     requires fits { PartFits index.now space.now part.now }
     requires memory { 1 ≤ vec_len dimensions.old }

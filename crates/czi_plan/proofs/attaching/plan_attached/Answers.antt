@@ -15,6 +15,7 @@ use Rattle.czi_plan.specs.Listing.{IsPlace}
 use Rattle.czi_plan.specs.Placing.{IsFull}
 use Rattle.czi_plan.proofs.Attached.{range_brought, seat_sizes, size_brought}
 use Rattle.czi_plan.proofs.Brought.{brought_at, fit_at, place_at, within_at}
+use Rattle.czi_plan.proofs.Acting.{brief_attachments}
 use Rattle.czi_plan.proofs.Changed.{is_plan}
 use Rattle.czi_plan.proofs.Doing.{does}
 use Rattle.czi_plan.proofs.Entries.{sizes_total}
@@ -95,3 +96,7 @@ returns-clause-does c =
 
 pub returns-clause-held : goal.returns-clause-held
 returns-clause-held c = few_held att_laws (act_at c.args.seat c.new_attachment-item.result) c.args.index.now c.stage_attached.new.out.held.items c.stage_attached.ensures.held
+
+pub returns-clause-brief : goal.returns-clause-brief
+returns-clause-brief c =
+    brief_attachments c.args.index.now c.args.space.now (act_at c.args.seat c.new_attachment-item.result) _ c.stage_attached.new.region _ c.stage_attached.new.out c.requires.of_index c.stage_attached.ensures

@@ -11,6 +11,7 @@ use Rattle.czi_plan.specs.Changing.{edited, entries_in, range_after}
 use Rattle.czi_plan.specs.Kind.{of_attachments}
 use Rattle.czi_plan.specs.Listing.{IsPlace}
 use Rattle.czi_plan.proofs.Attached.{count_as, out_count, sizes_for}
+use Rattle.czi_plan.proofs.Acting.{brief_attachments}
 use Rattle.czi_plan.proofs.Changed.{is_plan}
 use Rattle.czi_plan.proofs.Doing.{does}
 use Rattle.czi_plan.proofs.Entries.{sizes_total}
@@ -83,3 +84,7 @@ returns-clause-does c =
 
 pub returns-clause-held : goal.returns-clause-held
 returns-clause-held c = few_held att_laws (Out c.args.i) c.args.index.now c.stage_detachment.new.out.held.items c.stage_detachment.ensures.held
+
+pub returns-clause-brief : goal.returns-clause-brief
+returns-clause-brief c =
+    brief_attachments c.args.index.now c.args.space.now (Out c.args.i) (edited (taken_out c.args.i)) c.stage_detachment.new.region _ c.stage_detachment.new.out c.requires.of_index c.stage_detachment.ensures

@@ -8,6 +8,7 @@ use Rattle.czi_plan.specs.Kind.{of_subblocks}
 use Rattle.czi_plan.specs.Bringing.{AreSizesOf, act_at, subblock_of}
 use Rattle.czi_plan.specs.Placing.{IsFull}
 use Rattle.czi_plan.proofs.Brought.{as_entries, brought_at, entries_as_long, fit_at, range_of_act, size_of_act, within_at}
+use Rattle.czi_plan.proofs.Acting.{brief_tiles}
 use Rattle.czi_plan.proofs.Changed.{is_plan}
 use Rattle.czi_plan.proofs.Doing.{does}
 use Rattle.czi_plan.specs.Changing.{tiles_brought}
@@ -89,3 +90,7 @@ returns-clause-does c =
 pub returns-clause-held : goal.returns-clause-held
 returns-clause-held c =
     few_held tile_laws (act_at c.args.seat c.in_ok-tile.tile) c.args.index.now c.stage_brought.new.out.held.items c.stage_brought.ensures.held
+
+pub returns-clause-brief : goal.returns-clause-brief
+returns-clause-brief c =
+    brief_tiles c.args.index.now c.args.space.now (act_at c.args.seat c.in_ok-tile.tile) _ c.stage_brought.new.region _ c.stage_brought.new.out c.requires.of_index c.stage_brought.ensures

@@ -1,4 +1,4 @@
-use Rattle.std.proofs.Common.{◌≡◌, List, [], ◌∷◌, length, get_or, refl, ap, sym, subst, ◌∙◌}
+use Rattle.std.proofs.Common.{◌≡◌, [], ◌∷◌, length, get_or, refl, ap, sym, subst, ◌∙◌}
 use Rattle.czi_image.specs.declared.index.Index.{Index}
 use Rattle.czi_space.specs.State.{MapState}
 use Rattle.czi_undo.specs.declared.inverse.Inverse.{Inverse}

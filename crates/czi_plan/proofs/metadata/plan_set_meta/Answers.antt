@@ -6,6 +6,7 @@ use Rattle.czi_num.specs.Span.{span_of}
 use Rattle.czi_space.specs.State.{space_of}
 use Rattle.czi_plan.specs.Attaching.{metadata_in}
 use Rattle.czi_plan.specs.Placing.{IsFull}
+use Rattle.czi_plan.proofs.Acting.{brief_metadata}
 use Rattle.czi_plan.proofs.Parts.{map_extents}
 use Rattle.czi_plan.proofs.Setting.{does, few_held, is_plan, no_memory, no_place}
 use Rattle.czi_plan.proofs.metadata.plan_set_meta.Goals as goal
@@ -64,3 +65,6 @@ returns-clause-does c = does c.args.index.now c.args.space.now c.stage_setting.e
 
 pub returns-clause-held : goal.returns-clause-held
 returns-clause-held c = few_held (To (Some c.stage_setting.ensures.0)) c.args.index.now c.stage_setting.new.out.held.items c.stage_setting.ensures.1.held
+
+pub returns-clause-brief : goal.returns-clause-brief
+returns-clause-brief c = brief_metadata c.args.index.now c.args.space.now (To (Some c.stage_setting.ensures.0)) _ c.stage_setting.new.region c.stage_setting.new.out c.stage_setting.ensures.1

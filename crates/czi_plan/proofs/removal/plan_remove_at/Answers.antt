@@ -11,6 +11,7 @@ use Rattle.czi_plan.specs.Bringing.{AreSizesOf}
 use Rattle.czi_plan.specs.Changing.{edited, back_entries, front_entries, middle_entries, range_after}
 use Rattle.czi_plan.specs.Listing.{AreSizes, IsPlace}
 use Rattle.czi_plan.proofs.Brought.{range_of_act, size_of_act, sizes_out}
+use Rattle.czi_plan.proofs.Acting.{brief_tiles}
 use Rattle.czi_plan.proofs.Changed.{is_plan}
 use Rattle.czi_plan.proofs.Doing.{does}
 use Rattle.czi_plan.proofs.Entries.{sizes_total}
@@ -76,3 +77,7 @@ returns-clause-does c =
 
 pub returns-clause-held : goal.returns-clause-held
 returns-clause-held c = few_held tile_laws (Out c.args.i) c.args.index.now c.stage_removal.new.out.held.items c.stage_removal.ensures.held
+
+pub returns-clause-brief : goal.returns-clause-brief
+returns-clause-brief c =
+    brief_tiles c.args.index.now c.args.space.now (Out c.args.i) (edited (taken_out c.args.i)) c.stage_removal.new.region _ c.stage_removal.new.out c.requires.of_index c.stage_removal.ensures

@@ -8,7 +8,7 @@ use Rattle.czi_plan.specs.Changing.{Begins, Stages, returned, size_after}
 use Rattle.czi_plan.specs.Directory.{need_of}
 use Rattle.czi_plan.specs.Kind.{of_subblocks}
 use Rattle.czi_plan.specs.Listing.{fits_in_place}
-use Rattle.czi_plan.specs.Placing.{HasNoPlace, IsFull}
+use Rattle.czi_plan.specs.Placing.{IsFull}
 use Rattle.czi_plan.specs.declared.plan.EditPlan.{EditPlan}
 use Rattle.czi_plan.proofs.Back.{kinds_back, memory_tiles, place_as, room_for, tiles_back}
 use Rattle.czi_plan.proofs.Entries.{sizes_total}

@@ -1,4 +1,4 @@
-use Rattle.std.proofs.Common.{refl, sym, subst}
+use Rattle.std.proofs.Common.{subst}
 use Rattle.czi_image.specs.declared.change.Act.TheVariants.{Out}
 use Rattle.czi_plan.specs.Bringing.{AreSizesOf, act_at}
 use Rattle.czi_plan.specs.Kind.{of_subblocks}
