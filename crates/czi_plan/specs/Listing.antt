@@ -90,9 +90,9 @@ Lists k None Patched front middle back region old new marks more = ⊥
 Lists k (Some d) Patched front middle back region old new marks more = (new ≡ record old { marks = new.marks }) × Patches k d front middle back marks more
 Lists k was (New d) front middle back region old new marks more = Writes k d (front ++ (middle ++ back)) region old new marks more
 
--- how many bytes it has memory for, with those that were put
-abbrev pub bytes_held : Region → ℕ
-bytes_held r = room r + length (bytes_put r)
+-- how many bytes a region takes in all: those that were put, and those for which there is room
+abbrev pub region_size : Region → ℕ
+region_size r = room r + length (bytes_put r)
 
 -- the pieces that there were are still ones, and have the bytes that they had
 abbrev pub KeepsPut : Region → Region → Type 0

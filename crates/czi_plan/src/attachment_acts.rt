@@ -18,7 +18,7 @@ ghost use Rattle.czi_plan.specs.Bringing.{IsSeat, act_at};
 ghost use Rattle.czi_plan.specs.Changing.{Begins, IsNew, IsStaged, Origin, Stages, Starts, edited, new_marks, range_after, size_after, tiles_before, tiles_behind, tiles_brought};
 ghost use Rattle.czi_plan.specs.Conditions.{IsMapOf};
 ghost use Rattle.czi_plan.specs.Kind.{of_attachments};
-ghost use Rattle.czi_plan.specs.Listing.{HasRoomFor, IsPlace, bytes_held};
+ghost use Rattle.czi_plan.specs.Listing.{HasRoomFor, IsPlace, region_size};
 ghost use Rattle.czi_plan.specs.Marks.{AddsMarks, AreMarks, head_mark};
 ghost use Rattle.czi_plan.specs.Need.{HasActMemory, HasSpare, KeepsMemory, WritesOne, need_of_lists};
 
@@ -56,7 +56,7 @@ pub fn stage_attachment_act(
     requires room { HasRoomFor out.old.change.attdir (range_after of_attachments act index.now) (room region.old) }
     requires writes_room { vec_len out.old.writes < vec_capacity out.old.writes }
     requires memory { HasActMemory out.old }
-    ensures region { bytes_held region.new ≡ bytes_held region.old }
+    ensures region { region_size region.new ≡ region_size region.old }
     ensures stages { (o : Origin (Change Attachment)) → Begins of_attachments index.now space.now region.old act o out.old.change.attdir out.old → Stages of_attachments index.now space.now act o region.new out.old.change.attdir out.new }
 {
     let parts = att_parts(&act, &index.attachments);

@@ -10,7 +10,7 @@ ghost use Rattle.czi_image.specs.View.{att_item_of};
 ghost use Rattle.czi_plan.specs.Attaching.{ArePartsOf, att_back, att_count, att_front, att_middle};
 ghost use Rattle.czi_plan.specs.Changing.{entries_in, tiles_brought};
 ghost use Rattle.czi_plan.specs.Kind.{of_attachments};
-ghost use Rattle.czi_plan.specs.Listing.{AreSizes, IsReady, KeepsPut, Lists, Patches, Writes, bytes_held, entries_len, has_room, size_in};
+ghost use Rattle.czi_plan.specs.Listing.{AreSizes, IsReady, KeepsPut, Lists, Patches, Writes, entries_len, has_room, region_size, size_in};
 ghost use Rattle.czi_plan.specs.Marks.{AreSized, marks_of};
 ghost use Rattle.czi_plan.specs.Need.{KeepsMemory};
 
@@ -144,7 +144,7 @@ fn patch_attdir(
     ensures patches { Patches of_attachments directory.now (att_front parts.now) (att_middle parts.now) (att_back parts.now) (marks_of region.new marks.old.items) (marks_of region.new marks.new.items) }
     ensures sized { AreSized region.new marks.old.items → AreSized region.new marks.new.items }
     ensures kept { KeepsPut region.old region.new }
-    ensures region { bytes_held region.new ≡ bytes_held region.old }
+    ensures region { region_size region.new ≡ region_size region.old }
     ensures len { vec_len marks.new ≤ vec_len marks.old + 3 }
     ensures capacity { vec_capacity marks.old ≤ vec_capacity marks.new }
 {
@@ -173,7 +173,7 @@ fn write_attdir(
     ensures writes { Writes of_attachments directory.now (att_front parts.now ++ (att_middle parts.now ++ att_back parts.now)) region.new out.old out.new (marks_of region.new out.old.marks.items) (marks_of region.new out.new.marks.items) }
     ensures sized { AreSized region.new out.old.marks.items → AreSized region.new out.new.marks.items }
     ensures kept { KeepsPut region.old region.new }
-    ensures region { bytes_held region.new ≡ bytes_held region.old }
+    ensures region { region_size region.new ≡ region_size region.old }
     ensures len { vec_len out.new.marks ≤ vec_len out.old.marks + 3 }
     ensures memory { KeepsMemory out.old out.new }
 {
@@ -207,7 +207,7 @@ pub fn list_attachments(
     ensures lists { Lists of_attachments index.now.attdir out.old.change.attdir (att_front parts.now) (att_middle parts.now) (att_back parts.now) region.new out.old out.new (marks_of region.new out.old.marks.items) (marks_of region.new out.new.marks.items) }
     ensures sized { AreSized region.new out.old.marks.items → AreSized region.new out.new.marks.items }
     ensures kept { KeepsPut region.old region.new }
-    ensures region { bytes_held region.new ≡ bytes_held region.old }
+    ensures region { region_size region.new ≡ region_size region.old }
     ensures len { vec_len out.new.marks ≤ vec_len out.old.marks + 3 }
     ensures memory { KeepsMemory out.old out.new }
 {

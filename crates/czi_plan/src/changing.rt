@@ -8,7 +8,7 @@ ghost use Rattle.czi_region.specs.Pieces.{bytes_put, room};
 ghost use Rattle.czi_region.specs.declared.block.Region.{Region as TheRegion};
 ghost use Rattle.czi_plan.specs.Changing.{Begins, Origin, Stages, back_entries, front_entries, middle_entries, new_marks, range_after, tiles_before, tiles_behind, tiles_brought};
 ghost use Rattle.czi_plan.specs.Conditions.{IsMapOf};
-ghost use Rattle.czi_plan.specs.Listing.{AreSizes, HasRoomFor, bytes_held};
+ghost use Rattle.czi_plan.specs.Listing.{AreSizes, HasRoomFor, region_size};
 ghost use Rattle.czi_plan.specs.Marks.{AreMarks};
 ghost use Rattle.czi_plan.specs.Need.{HasActMemory, HasSpare, PlansSame, need_of_lists};
 ghost use Rattle.czi_plan.specs.Kind.{of_subblocks};
@@ -89,7 +89,7 @@ pub fn stage_act(
     requires room { HasRoomFor out.old.change.directory (range_after of_subblocks act index.now) (room region.old) }
     requires writes_room { vec_len out.old.writes < vec_capacity out.old.writes }
     requires memory { HasActMemory out.old }
-    ensures region { bytes_held region.new ≡ bytes_held region.old }
+    ensures region { region_size region.new ≡ region_size region.old }
     ensures stages { (o : Origin (Change Subblock)) → Begins of_subblocks index.now space.now region.old act o out.old.change.directory out.old → Stages of_subblocks index.now space.now act o region.new out.old.change.directory out.new }
 {
     let brought = brought_tiles(&act, &index.tiles);

@@ -5,7 +5,7 @@ ghost use Rattle.czi_image.specs.Summary.{entries_len};
 ghost use Rattle.czi_image.specs.View.{tile_of};
 ghost use Rattle.czi_region.specs.Pieces.{room};
 ghost use Rattle.czi_plan.specs.Conditions.{IsEmpty, IsMapOf};
-ghost use Rattle.czi_plan.specs.Listing.{bytes_held};
+ghost use Rattle.czi_plan.specs.Listing.{region_size};
 ghost use Rattle.czi_plan.specs.Need.{HasSpare, need_by, of_attachments, of_subblocks, region_by};
 ghost use Rattle.czi_plan.specs.Placing.{HasNoPlace};
 ghost use Rattle.czi_plan.specs.Plan.{IsBrief, IsPlan};
@@ -81,7 +81,7 @@ pub fn plan_inverse(
     ensures full { IfErr result (HasNoUndo index.now space.now inverse.now) }
     ensures never { IfErr result HasNoPlace }
     ensures left { OnErr result ((region.new ≡ region.old) × (out.new ≡ record out.old { length = out.new.length })) }
-    ensures region { bytes_held region.new ≡ bytes_held region.old }
+    ensures region { region_size region.new ≡ region_size region.old }
 {
     let part = &inverse.parts[0];
     if of_subblocks(part) {

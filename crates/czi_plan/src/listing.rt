@@ -9,7 +9,7 @@ ghost use Rattle.czi_region.specs.Pieces.{room};
 ghost use Rattle.czi_region.specs.declared.block.Region.{Region as TheRegion};
 ghost use Rattle.czi_space.specs.State.{AreExtents, space_of};
 ghost use Rattle.czi_plan.specs.Directory.{directory_size, listed, listed_back, listed_front, listed_middle, need_of};
-ghost use Rattle.czi_plan.specs.Listing.{AreSizes, IsPlace, IsReady, KeepsPut, Lists, Patches, Writes, bytes_held, fits_in_place, has_room};
+ghost use Rattle.czi_plan.specs.Listing.{AreSizes, IsPlace, IsReady, KeepsPut, Lists, Patches, Writes, fits_in_place, has_room, region_size};
 ghost use Rattle.czi_plan.specs.Marks.{AddsMarks, AreSized, head_mark, marks_of, pointer_mark};
 ghost use Rattle.czi_plan.specs.Need.{KeepsMemory};
 ghost use Rattle.czi_plan.specs.Placing.{HasNoPlace, IsFull};
@@ -95,7 +95,7 @@ fn patch_tiles(
     ensures patches { Patches of_subblocks directory.now (listed_front listing.now) (listed_middle listing.now) (listed_back listing.now) (marks_of region.new marks.old.items) (marks_of region.new marks.new.items) }
     ensures sized { AreSized region.new marks.old.items → AreSized region.new marks.new.items }
     ensures kept { KeepsPut region.old region.new }
-    ensures region { bytes_held region.new ≡ bytes_held region.old }
+    ensures region { region_size region.new ≡ region_size region.old }
     ensures len { vec_len marks.new ≤ vec_len marks.old + 3 }
     ensures capacity { vec_capacity marks.old ≤ vec_capacity marks.new }
 {
@@ -160,7 +160,7 @@ fn write_tiles(
     ensures writes { Writes of_subblocks directory.now (listed listing.now) region.new out.old out.new (marks_of region.new out.old.marks.items) (marks_of region.new out.new.marks.items) }
     ensures sized { AreSized region.new out.old.marks.items → AreSized region.new out.new.marks.items }
     ensures kept { KeepsPut region.old region.new }
-    ensures region { bytes_held region.new ≡ bytes_held region.old }
+    ensures region { region_size region.new ≡ region_size region.old }
     ensures len { vec_len out.new.marks ≤ vec_len out.old.marks + 3 }
     ensures memory { KeepsMemory out.old out.new }
 {
@@ -193,7 +193,7 @@ pub fn list_tiles(
     ensures lists { Lists of_subblocks index.now.directory out.old.change.directory (listed_front listing.now) (listed_middle listing.now) (listed_back listing.now) region.new out.old out.new (marks_of region.new out.old.marks.items) (marks_of region.new out.new.marks.items) }
     ensures sized { AreSized region.new out.old.marks.items → AreSized region.new out.new.marks.items }
     ensures kept { KeepsPut region.old region.new }
-    ensures region { bytes_held region.new ≡ bytes_held region.old }
+    ensures region { region_size region.new ≡ region_size region.old }
     ensures len { vec_len out.new.marks ≤ vec_len out.old.marks + 3 }
     ensures memory { KeepsMemory out.old out.new }
 {

@@ -20,7 +20,7 @@ ghost use Rattle.czi_plan.specs.Changing.{IsBack, Stages, returned, back_entries
 ghost use Rattle.czi_plan.specs.Conditions.{IsEmpty, IsMapOf};
 ghost use Rattle.czi_plan.specs.Directory.{need_of};
 ghost use Rattle.czi_plan.specs.Kind.{IsOfKind, of_attachments, of_subblocks};
-ghost use Rattle.czi_plan.specs.Listing.{AreSizes, bytes_held, fits_in_place};
+ghost use Rattle.czi_plan.specs.Listing.{AreSizes, fits_in_place, region_size};
 ghost use Rattle.czi_plan.specs.Marks.{AddsMarks, AreMarks};
 ghost use Rattle.czi_plan.specs.Need.{HasActMemory, HasMetadataMemory, KeepsMemory, directory_room, of_subblocks as is_of_subblocks};
 ghost use Rattle.czi_plan.specs.Placing.{HasNoPlace, IsFull};
@@ -170,7 +170,7 @@ pub fn plan_tiles(
     ensures full { IfErr result (λ fault. (a : CodeAct CodeTile) → IsTileAct part.now a → (fits_in_place index.now.directory (size_after of_subblocks a index.now) (range_after of_subblocks a index.now) ≡ false) × IsFull fault (fit (space_of space.now) (need_of (size_after of_subblocks a index.now)))) }
     ensures never { IfErr result HasNoPlace }
     ensures left { OnErr result ((region.new ≡ region.old) × (out.new ≡ record out.old { length = out.new.length })) }
-    ensures region { bytes_held region.new ≡ bytes_held region.old }
+    ensures region { region_size region.new ≡ region_size region.old }
 {
     out.length = space.length();
     let sizes = tile_sizes(index, space, part);
@@ -202,7 +202,7 @@ pub fn plan_attachments(
     ensures full { IfErr result (λ fault. (fits_in_place index.now.attdir (size_after of_attachments act index.now) (range_after of_attachments act index.now) ≡ false) × IsFull fault (fit (space_of space.now) (need_of (size_after of_attachments act index.now)))) }
     ensures never { IfErr result HasNoPlace }
     ensures left { OnErr result ((region.new ≡ region.old) × (out.new ≡ record out.old { length = out.new.length })) }
-    ensures region { bytes_held region.new ≡ bytes_held region.old }
+    ensures region { region_size region.new ≡ region_size region.old }
 {
     out.length = space.length();
     let parts = att_parts(&act, &index.attachments);
