@@ -15,3 +15,5 @@ mod metadata;
 mod plans;
 #[cfg(test)]
 mod removing;
+#[cfg(test)]
+mod undoing;
