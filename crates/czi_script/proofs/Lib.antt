@@ -10,6 +10,7 @@ mod Values
 pub mod Faults
 pub mod Reading
 pub mod RegionLines
+pub mod RegionWords
 mod Found
 mod Passing
 mod Payloads

@@ -5,3 +5,4 @@ pub mod Reader
 pub mod Filled
 pub mod Pieces
 pub mod Course
+pub mod Words

@@ -23,7 +23,7 @@ use Rattle.czi_format.specs.Painting.{PixelType, Query}
 use Rattle.czi_script.specs.declared.lines.Front.{Front}
 use Rattle.czi_script.specs.declared.lines.Front.TheVariants.{Line, Long as TooFar, Part}
 use Rattle.czi_script.specs.BytesText.{IsSpelled}
-use Rattle.czi_script.specs.Script.{HasNo, Head, Brings, Payload, Tile, Attachment, Metadata, Piece, IsHead, IsWrong, IsFault, TileValues, AttachmentValues, IsCount, IsPixel, IsScene, IsSigned, IsSize, RegionValues, FieldForm, Split, AreValues, head_word, values_at, pieces, payload_len, close, command_with}
+use Rattle.czi_script.specs.Script.{HasNo, Head, Brings, Payload, Tile, Attachment, Metadata, Piece, IsHead, IsWrong, IsFault, TileValues, AttachmentValues, IsCount, IsPixel, IsScene, IsSigned, IsSize, RegionValues, FieldForm, Split, AreValues, head_word, region_fields, values_at, pieces, payload_len, close, command_with}
 use Rattle.czi_script.specs.Reader.{Reader, Uses, GoesOn, HoldsNoLine, limit}
 use Rattle.czi_script.specs.View.{command_of, head_of}
 
@@ -269,6 +269,10 @@ NoRegionNumbers t = (pixel : PixelType) (layer : ℕ) (x y : ℤ) (w h : ℕ) (s
 abbrev pub RefusesRegion : RegionTexts → Refusal → Type 0
 RefusesRegion t (OfKind kind) = (kind ≡ Value) × ((q : Query) → RegionValues q (region_values_in t) → ⊥)
 RefusesRegion t NoMemory = Unit {0}
+
+-- the fields of a line say no region
+abbrev pub SaysNoRegion : List ℕ → Type 0
+SaysNoRegion text = (q : Query) → Given region_fields text (RegionValues q) → ⊥
 
 -- the values of an attachment's line
 abbrev pub names_in : Names → List (List ℕ)

@@ -1,8 +1,10 @@
 //! Laws of scripts.
 
-ghost use Rattle.std.specs.Prelude.{◌≡◌, ◌≢◌, ◌⊎◌, ℕ, ◌+◌, ◌-◌, ◌≤◌, List, [], ◌∷◌, ◌++◌, length, take};
+ghost use Rattle.std.specs.Prelude.{◌≡◌, ◌≢◌, ◌⊎◌, ℕ, ◌+◌, ◌-◌, ◌≤◌, List, [], ◌∷◌, ◌++◌, Option, length, take};
+ghost use Rattle.czi_format.specs.Painting.{Query};
 ghost use Rattle.czi_script.specs.declared.kind.Kind.{Kind as FaultKind};
 ghost use Rattle.czi_script.specs.Script.{Command as Cmd, Spells, SpellAll, IsFault, NoneBegins, Reads, End, Found, Shows, Finds};
+ghost use Rattle.czi_script.specs.Words.{SaysRegion};
 
 use crate::kind::Kind;
 
@@ -52,4 +54,10 @@ pub fn faults_show()
     ensures whole { (most : ℕ) (front bytes : List ℕ) (cs : List Cmd) (kind : FaultKind) → SpellAll cs front → length front ≤ most → Shows (most - length front) kind bytes
         → ((length (front ++ bytes) ≤ most) × Reads 1 (front ++ bytes) cs (End.Fault (1 + length cs) kind))
         ⊎ ((more : List ℕ) → Reads 1 (take most (front ++ bytes) ++ more) cs (End.Fault (1 + length cs) kind)) }
+{}
+
+/// Whatever words are given as the fields of a region, they say exactly one region or none.
+pub fn one_region()
+    ensures exists { (fields : List (List ℕ)) → (said : Option Query) × SaysRegion fields said }
+    ensures unique { (fields : List (List ℕ)) (said other : Option Query) → SaysRegion fields said → SaysRegion fields other → said ≡ other }
 {}

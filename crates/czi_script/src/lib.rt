@@ -21,6 +21,7 @@ pub use error::ScriptError;
 pub use kind::Kind;
 pub use laws::{
     faults_show, faults_stay, no_spelling_begins_another, one_answer, one_kind, one_reading,
-    reading_goes_on,
+    one_region, reading_goes_on,
 };
 pub use reader::ScriptReader;
+pub use regions::read_region;

@@ -1,12 +1,14 @@
-//! What the line of a region says.
+//! What the line of a region says, and what its fields say as words.
 
-ghost use Rattle.std.specs.Prelude.{◌≡◌, ◌<◌, ◌^◌, ℕ, ℤ, List, Option, codes, option_map, IfOk, MatchOption, MatchResult};
+ghost use Rattle.std.specs.Prelude.{◌≡◌, ◌<◌, ◌^◌, ◌==◌, ℕ, ℤ, List, Option, codes, map, not, option_map, IfOk, MatchOption, MatchResult};
+ghost use Rattle.std.specs.List.{list_all};
 ghost use Rattle.czi_format.specs.Key.{Axis};
 ghost use Rattle.czi_format.specs.Painting.{PixelType};
 ghost use Rattle.czi_doc.specs.QueryView.{plane_of, query_of, type_of};
 ghost use Rattle.czi_script.specs.Script.{IsCount, IsPixel, IsPlane, IsScene, RegionValues, region_fields, values_at};
 ghost use Rattle.czi_script.specs.View.{head_of};
-ghost use Rattle.czi_script.specs.Pieces.{AreRegionNumbers, NoRegionNumbers, RefusesFields, RefusesRegion, SaysFields, region_values_in};
+ghost use Rattle.czi_script.specs.Words.{SaysRegion, fields_text, is_unspaced};
+ghost use Rattle.czi_script.specs.Pieces.{AreRegionNumbers, Given, NoRegionNumbers, RefusesFields, RefusesRegion, SaysFields, SaysNoRegion, region_values_in};
 
 use crate::fields::{LEFT_OUT, Refusal, value_at, value_or};
 use crate::head::{Head, Plain};
@@ -168,4 +170,60 @@ pub(crate) fn region_in(alloc: Global, fields: &[u8]) -> Result<Head, Refusal>
         Ok(query) => Ok(Head::Alone(Plain::Region(query))),
         Err(refusal) => Err(refusal),
     }
+}
+
+/// Whether a field has no space.
+fn is_unspaced(field: &str) -> bool
+    ensures { result ≡ is_unspaced field.now }
+{
+    field.as_bytes().iter().all(|byte| *byte != b' ')
+}
+
+/// Whether no field has a space.
+fn are_unspaced(fields: &[&str]) -> bool
+    ensures { result ≡ list_all (λ s. is_unspaced s.now) fields.now }
+{
+    fields.iter().all(|field| is_unspaced(field))
+}
+
+/// The fields as they stand in a line, each behind one space.
+fn fields_text(alloc: Global, fields: &[&str]) -> Result<Vec<u8>, AllocError>
+    ensures { IfOk result (λ text. text.items ≡ fields_text (map (λ s. s.now) fields.now)) }
+{
+    let mut text = Vec::new(alloc);
+    for field in fields {
+        text.push(b' ')?;
+        text.extend_from_slice(field.as_bytes())?;
+    }
+    Ok(text)
+}
+
+/// The region that a text of fields says. None exactly where it says none.
+fn region_by(alloc: Global, fields: &[u8]) -> Result<Option<Query>, AllocError>
+    ensures { IfOk result (λ found. MatchOption found (SaysNoRegion fields.now) (λ query. Given region_fields fields.now (RegionValues (query_of query)))) }
+{
+    let Some(texts) = region_texts(fields) else {
+        return Ok(None);
+    };
+    match query_by(alloc, &texts) {
+        Ok(query) => Ok(Some(query)),
+        Err(Refusal::Kind(_)) => Ok(None),
+        Err(Refusal::Memory) => Err(AllocError),
+    }
+}
+
+/// The region that fields say, each of which is one word: what they say behind the word of a script's line, where no field has a
+/// space. None exactly where they say none.
+///
+/// # Errors
+///
+/// Where memory is wanting.
+pub fn read_region(alloc: Global, fields: &[&str]) -> Result<Option<Query>, AllocError>
+    ensures { IfOk result (λ found. SaysRegion (map (λ s. s.now) fields.now) (option_map query_of found)) }
+{
+    if !are_unspaced(fields) {
+        return Ok(None);
+    }
+    let text = fields_text(alloc, fields)?;
+    region_by(alloc, &text)
 }
