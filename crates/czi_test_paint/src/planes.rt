@@ -1,6 +1,6 @@
 //! `czi_doc`: planes and queries.
 
-use crate::asked::query;
+use crate::asked::{Asked, query};
 use czi_doc::{Pixel, Plane, read_plane};
 use std::alloc::Global;
 use std::process::Abort;
@@ -48,12 +48,25 @@ fn plane_text_is_read(rt: HostRuntime) -> Result<(), Fail> {
     Ok(())
 }
 
+// A region of all planes and scenes, and one of a scene and a plane.
+const COPIED: [Asked; 2] = [
+    (Pixel::Gray8, 1, (0, 0), (4, 1), None, b""),
+    (Pixel::Gray8, 1, (0, 0), (4, 1), Some(2), b"C0,T7"),
+];
+
+fn check_copied(rt: &impl Abort, alloc: Global, asked: &Asked) -> Result<(), Fail> {
+    let query = query(alloc, asked)?;
+    assert!(rt; query.try_copy()? == query);
+    assert!(rt; query.plane.try_copy()? == query.plane);
+    Ok(())
+}
+
 #[test]
 fn planes_and_queries_are_copied(rt: HostRuntime) -> Result<(), Fail> {
     let alloc = rt.alloc();
-    let query = query(alloc, &(Pixel::Gray8, 1, (0, 0), (4, 1), Some(2), b"C0,T7"))?;
-    assert!(&rt; query.try_copy()? == query);
-    assert!(&rt; query.plane.try_copy()? == query.plane);
+    for asked in COPIED.iter() {
+        check_copied(&rt, alloc, asked)?;
+    }
     let items = vec![in alloc; (*b"C\0\0\0", 0), (*b"C\0\0\0", 1)]?;
     assert!(&rt; Plane::new(items).is_none());
     Ok(())
