@@ -24,6 +24,8 @@ mod large;
 #[cfg(test)]
 mod outcomes;
 #[cfg(test)]
+mod regions;
+#[cfg(test)]
 mod scripts;
 #[cfg(test)]
 mod session;

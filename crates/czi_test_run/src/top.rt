@@ -142,7 +142,8 @@ static OTHER_WORDS: [&[&str]; 15] = [
     &["F", "list", "--"],
 ];
 
-fn check_usage(rt: &impl Abort, alloc: Global, words: &[&str]) -> Result<(), Fail> {
+/// The words are no command: the usage line is said, and no file is asked.
+pub(crate) fn check_usage(rt: &impl Abort, alloc: Global, words: &[&str]) -> Result<(), Fail> {
     let mut rig = empty_rig(alloc)?;
     let status = outcome(alloc, words, b"", &mut rig)?;
     assert!(rt; status == 1 && rig.said() == USAGE && rig.calls() == 1);

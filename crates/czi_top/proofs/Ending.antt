@@ -1,6 +1,5 @@
 -- How a run of the program ends.
 use Rattle.std.proofs.Common.{◌≡◌, ◌⊎◌, inl, inr, ⊎_elim, ℕ, List, ◌++◌, take, Option, Some, refl, sym, ap, ◌∙◌, subst, arith, zero-le}
-use Rattle.std.specs.Option.{ForSome}
 use Rattle.std.specs.Prelude.{option_map}
 use Rattle.czi_rig.specs.State.{State}
 use Rattle.czi_rig.specs.Faults.{Faults, FaultsWith}
@@ -11,29 +10,19 @@ use Rattle.czi_session.specs.Ends.{Answers, Quiet, SaysRefusal}
 use Rattle.czi_session.specs.Stops.{EndsOpening, end_device}
 use Rattle.czi_editor.specs.Machine.{Begun}
 use Rattle.czi_editor.specs.Replies.{still}
-use Rattle.czi_top.specs.Words.{Query, list, info, map, check, step, query, edit, Command, opening, create}
-use Rattle.czi_top.specs.View.{action_view, command_view}
-use Rattle.czi_top.specs.declared.words.Action.{Action as CodeAction}
-use Rattle.czi_top.specs.declared.words.Command.{Command as CodeCommand}
-use Rattle.czi_top.specs.declared.words.Command.TheVariants.{Open, Create}
-use Rattle.czi_top.specs.Run.{MayBeUnopened, SaysLine, SaysUsage, TakesByStatus, code_of, status_device}
-
--- the words that were read ask for an image to be opened
-pub asks_to_open : (found : Option CodeCommand) (asked : Option Command) (action : CodeAction) → option_map command_view found ≡ asked → found ≡ Some (Open action) → asked ≡ Some (opening (action_view action))
-asks_to_open found asked action is found_is = sym is ∙ ap (option_map command_view) found_is
-
--- or for a document to be created
-pub asks_to_create : (found : Option CodeCommand) (asked : Option Command) (guid : List ℕ) → option_map command_view found ≡ asked → found ≡ Some (Create guid) → asked ≡ Some (create guid)
-asks_to_create found asked guid is made = sym is ∙ ap (option_map command_view) made
+use Rattle.czi_top.specs.Words.{Action, Query, list, info, map, check, region, step, query, edit, Command, opening, create}
+use Rattle.czi_top.specs.Run.{MayBeUnopened, SaysLine, SaysUsage, TakesByEnd, TakesByStatus, code_of, status_device}
 
 -- where memory was wanting for the words nothing was taken
-pub unread_takes : (asked : Option Command) (left : Option (List ℕ)) → ForSome asked (λ command. TakesByStatus command left left 8)
-unread_takes asked left = λ command is. takes command
-  where
-    takes : (command : Command) → TakesByStatus command left left 8
-    takes (opening (query q)) = refl
-    takes (opening edit) = (Stopped Memory, refl, record { count = 0; few = zero-le; inside = λ bytes is. zero-le; rest = λ bytes is. is })
-    takes (create guid) = refl
+pub unread_takes : (command : Command) (left : Option (List ℕ)) → TakesByStatus command left left 8
+unread_takes (opening (query q)) left = refl
+unread_takes (opening edit) left = (Stopped Memory, refl, record { count = 0; few = zero-le; inside = λ bytes is. zero-le; rest = λ bytes is. is })
+unread_takes (create guid) left = refl
+
+-- what is taken, by the status
+pub takes_so : (action : Action) (ended : Ended) (status : ℕ) (left now : Option (List ℕ)) → status ≡ code_of ended → TakesByEnd action left now ended → TakesByStatus (opening action) left now status
+takes_so (query q) ended status left now is takes = takes
+takes_so edit ended status left now is takes = (ended, is, takes)
 
 -- no fault came, also none of an input that isn't read
 pub quiet_alone : {old new : State} {before now : ℕ} → Quiet old new before now → Quiet old new 0 0
@@ -42,6 +31,21 @@ quiet_alone q = record { image = q.image; journal = q.journal; output = q.output
 -- the status of the wanted end, or of a want of memory
 pub answers_code : (wanted ended : Ended) (status : ℕ) → status ≡ code_of ended → Answers wanted ended → (status ≡ code_of wanted) ⊎ (status ≡ 8)
 answers_code wanted ended status is answers = ⊎_elim (λ e. inl (is ∙ ap (λ x. code_of x) e)) (λ e. inr (is ∙ ap (λ x. code_of x) e)) answers
+
+-- no run that was begun ends with the status of the usage line
+one_is_none : (ended : Ended) → code_of ended ≡ 1 → ⊥
+one_is_none Done is = cc
+one_is_none Refused is = cc
+one_is_none (Stopped (Script number kind)) is = cc
+one_is_none (Stopped Image) is = cc
+one_is_none (Stopped Journal) is = cc
+one_is_none (Stopped Output) is = cc
+one_is_none (Stopped Input) is = cc
+one_is_none (Stopped Memory) is = cc
+one_is_none (Stopped TooLong) is = cc
+
+pub is_begun : (ended : Ended) (status : ℕ) → status ≡ code_of ended → status ≡ 1 → ⊥
+is_begun ended status is one = one_is_none ended (sym is ∙ one)
 
 -- the status of a refusal is no other's
 two_is_refused : (ended : Ended) → code_of ended ≡ 2 → ended ≡ Refused
@@ -110,3 +114,4 @@ still_step b list = tt
 still_step b info = tt
 still_step b map = tt
 still_step b check = tt
+still_step b (region q) = tt

@@ -1,3 +1,4 @@
+mod Asking
 pub mod Ending
 pub mod Made
 pub mod Walks

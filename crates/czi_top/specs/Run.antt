@@ -12,23 +12,23 @@ use Rattle.czi_session.specs.declared.stop.Ended.{Ended}
 use Rattle.czi_session.specs.declared.stop.Ended.TheVariants.{Done, Refused, Stopped}
 use Rattle.czi_session.specs.declared.stop.Stop.TheVariants.{Script, Image, Journal, Output, Input, Memory, TooLong}
 use Rattle.czi_editor.specs.Machine.{Begun, IsRefused, the_machine}
-use Rattle.czi_top.specs.Words.{Action, query, edit, Command, opening, create, step}
+use Rattle.czi_top.specs.Words.{Action, AreWords, query, edit, Command, opening, create, step}
 
 -- what is said where the words are no command
 unfoldable pub usage : List ℕ
 usage = codes "usage: czi_tool FILE COMMAND [name=value ...]" ++ 10 ∷ []
 
--- the words ask for an image to be opened, and this is so of what is done with it
-abbrev pub IfOpens : Option Command → (Action → Type 0) → Type 0
-IfOpens None P = Unit {0}
-IfOpens (Some (opening action)) P = P action
-IfOpens (Some (create guid)) P = Unit {0}
+-- The words ask for a command, and this is so of it.
+abbrev pub IfAsked : List (List ℕ) → (Command → Type 0) → Type 0
+IfAsked words P = (command : Command) → AreWords words (Some command) → P command
+
+-- they ask for an image to be opened, and this is so of what is done with it
+abbrev pub IfOpens : List (List ℕ) → (Action → Type 0) → Type 0
+IfOpens words P = (action : Action) → AreWords words (Some (opening action)) → P action
 
 -- they ask for a document to be created, and this is so of its GUID
-abbrev pub IfCreates : Option Command → (List ℕ → Type 0) → Type 0
-IfCreates None P = Unit {0}
-IfCreates (Some (opening action)) P = Unit {0}
-IfCreates (Some (create guid)) P = P guid
+abbrev pub IfCreates : List (List ℕ) → (List ℕ → Type 0) → Type 0
+IfCreates words P = (guid : List ℕ) → AreWords words (Some (create guid)) → P guid
 
 -- Memory was wanting for the words themselves, and nothing was done.
 abbrev pub Unread : {D I : Type 0} → (old new : D) → (before now : I) → ℕ → Type 0

@@ -3,7 +3,9 @@
 
 mod arguments;
 mod creating;
+mod laws;
 mod top;
 mod words;
 
+pub use laws::one_command;
 pub use top::run;

@@ -1,14 +1,17 @@
 // The words of the command line.
-ghost use Rattle.std.specs.Prelude.{◌≡◌, IfOk, map, option_map, string_bytes};
+ghost use Rattle.std.specs.Prelude.{◌≡◌, Option, IfOk, map, option_map, string_bytes};
+ghost use Rattle.czi_format.specs.Painting.{Query as Painting};
+ghost use Rattle.czi_script.specs.Words.{SaysRegion};
 ghost use Rattle.czi_top.specs.View.{action_view, command_view};
-ghost use Rattle.czi_top.specs.Words.{action_named, action_of, command_named, command_of, guid_by, guid_in, value_behind};
+ghost use Rattle.czi_top.specs.Words.{AreWords, action_named, action_of, bare_action, command_named, guid_by, guid_in, value_behind};
 
 use crate::arguments::read_arguments;
+use czi_script::read_region;
 use std::alloc::{AllocError, Global};
 use uuid::Uuid;
 
 /// What can be asked of an image.
-#[derive(Clone, Copy, PartialEq, Eq)]
+#[derive(PartialEq, Eq, Drop)]
 pub(crate) enum Query {
     /// The subblocks.
     List,
@@ -18,10 +21,12 @@ pub(crate) enum Query {
     Map,
     /// How many segments of each sort there are.
     Check,
+    /// The pixels of this region.
+    Region(czi_doc::Query),
 }
 
 /// What is done with an image that is opened.
-#[derive(Clone, Copy, PartialEq, Eq)]
+#[derive(PartialEq, Eq, Drop)]
 pub(crate) enum Action {
     /// A query is answered.
     Query(Query),
@@ -30,7 +35,7 @@ pub(crate) enum Action {
 }
 
 /// What the words ask for.
-#[derive(Clone, Copy, PartialEq, Eq)]
+#[derive(PartialEq, Eq, Drop)]
 pub(crate) enum Command {
     /// The image is to be opened, and this to be done with it.
     Open(Action),
@@ -58,12 +63,26 @@ fn action_named(name: &str) -> Option<Action>
 }
 
 /// What is done under this name with these fields: it has none.
-fn action_of(name: &str, fields: &[&str]) -> Option<Action>
-    ensures { option_map action_view result ≡ action_of name.now (map (λ s. s.now) fields.now) }
+fn bare_action(name: &str, fields: &[&str]) -> Option<Action>
+    ensures { option_map action_view result ≡ bare_action name.now (map (λ s. s.now) fields.now) }
 {
     match fields {
         [] => action_named(name),
         _ => None,
+    }
+}
+
+/// What is done under this name with these fields: those of `region` are the ones of a script's line, and no other has any.
+fn action_of(alloc: Global, name: &str, fields: &[&str]) -> Result<Option<Action>, AllocError>
+    ensures { IfOk result (λ action. (said : Option Painting) → SaysRegion (map (λ s. s.now) fields.now) said → option_map action_view action ≡ action_of said name.now (map (λ s. s.now) fields.now)) }
+{
+    if name == "region" {
+        match read_region(alloc, fields)? {
+            Some(region) => Ok(Some(Action::Query(Query::Region(region)))),
+            None => Ok(None),
+        }
+    } else {
+        Ok(bare_action(name, fields))
     }
 }
 
@@ -95,13 +114,13 @@ fn guid_in(fields: &[&str]) -> Option<[u8; 16]>
 }
 
 /// The command of this name with these fields.
-fn command_named(name: &str, fields: &[&str]) -> Option<Command>
-    ensures { option_map command_view result ≡ command_named name.now (map (λ s. s.now) fields.now) }
+fn command_named(alloc: Global, name: &str, fields: &[&str]) -> Result<Option<Command>, AllocError>
+    ensures { IfOk result (λ command. (said : Option Painting) → SaysRegion (map (λ s. s.now) fields.now) said → option_map command_view command ≡ command_named said name.now (map (λ s. s.now) fields.now)) }
 {
     if name == "create" {
-        guid_in(fields).map(Command::Create)
+        Ok(guid_in(fields).map(Command::Create))
     } else {
-        action_of(name, fields).map(Command::Open)
+        Ok(action_of(alloc, name, fields)?.map(Command::Open))
     }
 }
 
@@ -112,10 +131,10 @@ fn command_named(name: &str, fields: &[&str]) -> Option<Command>
 ///
 /// Where memory is wanting.
 pub(crate) fn command_of(alloc: Global, words: &[String]) -> Result<Option<Command>, AllocError>
-    ensures { IfOk result (λ command. option_map command_view command ≡ command_of (map (λ s. string_bytes s) words.now)) }
+    ensures { IfOk result (λ command. AreWords (map (λ s. string_bytes s) words.now) (option_map command_view command)) }
 {
     match read_arguments(alloc, words)? {
-        Some(found) => Ok(command_named(found.name, &found.fields)),
+        Some(found) => command_named(alloc, found.name, &found.fields),
         None => Ok(None),
     }
 }
