@@ -16,7 +16,7 @@ use Rattle.czi_doc.proofs.Numbers.{natural_or, number_or, same_natural}
 use Rattle.czi_script.specs.declared.kind.Kind.{Kind}
 use Rattle.czi_script.specs.declared.kind.Kind.TheVariants.{Cut, Long, Word, Later, Field, Value, Tail}
 use Rattle.czi_script.specs.BytesText.{IsBytesText, IsPaddedText, padded}
-use Rattle.czi_script.specs.Script.{Verb, Adds, Replaces, Removes, Detaches, Paints, Lists, Tells, Maps, Checks, Tile, Attachment, Metadata, Head, Alone, Brings, word, lines, later_words, is_among, fields_for, values_at, behind_word, values_of, IsSigned, IsSize, TileValues, AttachmentValues, attachment_word, tile_word, head_word, AreValues, IsHead, IsWrong, is_built, has_fields}
+use Rattle.czi_script.specs.Script.{Verb, Adds, Replaces, Removes, Detaches, Undoes, Paints, Lists, Tells, Maps, Checks, Tile, Attachment, Metadata, Head, Alone, Brings, word, lines, later_words, is_among, fields_for, values_at, behind_word, values_of, IsSigned, IsSize, TileValues, AttachmentValues, attachment_word, tile_word, head_word, AreValues, IsHead, IsWrong, is_built, has_fields}
 use Rattle.czi_script.proofs.Tests.{less_or, no_truth}
 use Rattle.czi_script.proofs.RegionLines.{SomeRegion, nth, number_is, region_at, region_is, region_or, the_number}
 use Rattle.czi_script.proofs.Words.{each_line, built_not_later}
@@ -78,6 +78,7 @@ head_at w values =
     else if bytes_eq w (codes "reattach") then attachment_at Replaces values
     else if bytes_eq w (codes "detach") then Alone (Detaches (the_bytes (nth 0 values)))
     else if bytes_eq w (codes "meta") then Brings (Metadata (digits_value 10 (nth 0 values)) (digits_value 10 (nth 1 values)))
+    else if bytes_eq w (codes "undo") then Alone Undoes
     else if bytes_eq w (codes "region") then region_at values
     else if bytes_eq w (codes "list") then Alone Lists
     else if bytes_eq w (codes "info") then Alone Tells
@@ -98,6 +99,7 @@ head_is (Brings (Attachment Adds info len)) values are = attachment_is Adds info
 head_is (Brings (Attachment Replaces info len)) values are = attachment_is Replaces info len values are
 head_is (Alone (Detaches name)) values are = ap (λ vs. head_at (codes "detach") vs) are.1 ∙ ap (λ (n : List ℕ). Alone (Detaches n)) (bytes_is 80 are.0 name are.2)
 head_is (Brings (Metadata xml tail)) values are = ap (λ vs. head_at (codes "meta") vs) are.2 ∙ metadata_is are.0 are.1 xml tail are.3 are.4
+head_is (Alone Undoes) values are = refl
 head_is (Alone (Paints q)) values are = region_is q values are
 head_is (Alone Lists) values are = refl
 head_is (Alone Tells) values are = refl
@@ -433,7 +435,7 @@ says_so w built = each_line SaysSo lines (
             detach_says,
             (
               meta_says,
-              (region_says, (bare_says _ (Alone Lists) refl refl some_values, (bare_says _ (Alone Tells) refl refl some_values, (bare_says _ (Alone Maps) refl refl some_values, (bare_says _ (Alone Checks) refl refl some_values, tt))))),
+              (bare_says _ (Alone Undoes) refl refl some_values, (region_says, (bare_says _ (Alone Lists) refl refl some_values, (bare_says _ (Alone Tells) refl refl some_values, (bare_says _ (Alone Maps) refl refl some_values, (bare_says _ (Alone Checks) refl refl some_values, tt)))))),
             ),
           ),
         ),

@@ -29,7 +29,7 @@ each_line P (l ∷ ls) all w e = elim (cases_Bool (bytes_eq w l.name)) [
 
 -- the words that are built and the others are apart
 pub built_not_later : (w : List ℕ) → is_some (fields_for lines w) ≡ true → is_among later_words w ≡ false
-built_not_later w e = each_line (λ x. is_among later_words x ≡ false) lines (refl, (refl, (refl, (refl, (refl, (refl, (refl, (refl, (refl, (refl, (refl, (refl, tt)))))))))))) w e
+built_not_later w e = each_line (λ x. is_among later_words x ≡ false) lines (refl, (refl, (refl, (refl, (refl, (refl, (refl, (refl, (refl, (refl, (refl, (refl, (refl, tt))))))))))))) w e
 
 -- the values of a line whose fields are known
 values_by : (line : List ℕ) (fs : List FieldForm) → fields_for lines (word line) ≡ Some fs → values_of line ≡ values_at fs (behind_word line)

@@ -20,7 +20,7 @@ use Rattle.czi_script.specs.declared.kind.Kind.TheVariants.{Cut, Long, Word, Lat
 -- What a script asks for: to add a subblock with these metadata, pixel data and attachment, or to put it in the place of the
 -- one that its dimensions name; to remove the subblock that these dimensions name; to attach these bytes, or to put them in the
 -- place of the attachment with their name; to detach the one with this name; to set the metadata to this XML and attachment; to
--- paint this region; to list the subblocks, to tell of the image, to map its free space, or to count its segments. Nothing is asked for by a command
+-- undo the last of these that isn't undone yet; to paint this region; to list the subblocks, to tell of the image, to map its free space, or to count its segments. Nothing is asked for by a command
 -- with a payload of which a piece has so many bytes, which is past this limit.
 pub data Command : Type 0 where
   Add : EntryInfo → List ℕ → List ℕ → List ℕ → Command
@@ -30,6 +30,7 @@ pub data Command : Type 0 where
   Reattach : AttInfo → List ℕ → Command
   Detach : List ℕ → Command
   SetMeta : List ℕ → List ℕ → Command
+  Undo : Command
   Region : Query → Command
   Listing : Command
   Info : Command
@@ -46,6 +47,7 @@ pub data Verb : Type 0 where
 pub data Plain : Type 0 where
   Removes : List Dim → Plain
   Detaches : List ℕ → Plain
+  Undoes : Plain
   Paints : Query → Plain
   Lists : Plain
   Tells : Plain
@@ -130,6 +132,7 @@ lines = record { name = codes "add"; fields = tile_fields }
     ∷ record { name = codes "reattach"; fields = attachment_fields }
     ∷ record { name = codes "detach"; fields = needed (codes " name=") ∷ [] }
     ∷ record { name = codes "meta"; fields = metadata_fields }
+    ∷ record { name = codes "undo"; fields = [] }
     ∷ record { name = codes "region"; fields = region_fields }
     ∷ record { name = codes "list"; fields = [] }
     ∷ record { name = codes "info"; fields = [] }
@@ -138,7 +141,7 @@ lines = record { name = codes "add"; fields = tile_fields }
     ∷ []
 
 abbrev pub later_words : List (List ℕ)
-later_words = codes "undo" ∷ codes "repack" ∷ []
+later_words = codes "repack" ∷ []
 
 abbrev pub is_among : List (List ℕ) → List ℕ → Bool
 is_among words w = list_any (bytes_eq w) words
@@ -262,6 +265,7 @@ head_word (Alone (Removes dims)) = codes "remove"
 head_word (Brings (Attachment verb info len)) = attachment_word verb
 head_word (Alone (Detaches name)) = codes "detach"
 head_word (Brings (Metadata xml tail)) = codes "meta"
+head_word (Alone Undoes) = codes "undo"
 head_word (Alone (Paints q)) = codes "region"
 head_word (Alone Lists) = codes "list"
 head_word (Alone Tells) = codes "info"
@@ -274,6 +278,7 @@ AreValues (Alone (Removes dims)) values = (text : List ℕ) × (values ≡ text 
 AreValues (Brings (Attachment verb info len)) values = AttachmentValues info len values
 AreValues (Alone (Detaches name)) values = (text : List ℕ) × (values ≡ text ∷ []) × IsBytesText 80 text name
 AreValues (Brings (Metadata xml tail)) values = (a b : List ℕ) × (values ≡ a ∷ b ∷ []) × IsSize a xml × IsSize b tail
+AreValues (Alone Undoes) values = values ≡ []
 AreValues (Alone (Paints q)) values = RegionValues q values
 AreValues (Alone Lists) values = values ≡ []
 AreValues (Alone Tells) values = values ≡ []
@@ -323,6 +328,7 @@ first_past (p ∷ ps) = if nat_lt p.limit p.len then Some p else first_past ps
 abbrev pub plain_command : Plain → Command
 plain_command (Removes dims) = Remove dims
 plain_command (Detaches name) = Detach name
+plain_command Undoes = Undo
 plain_command (Paints q) = Region q
 plain_command Lists = Listing
 plain_command Tells = Info

@@ -3,11 +3,11 @@ use Rattle.std.specs.Prelude.{List, [], ◌∷◌}
 use Rattle.czi_doc.specs.QueryView.{query_of}
 use Rattle.czi_doc.specs.View.{att_of, bytes_of, dims_of, info_of}
 use Rattle.czi_script.specs.declared.command.Command.{Command as CodeCommand}
-use Rattle.czi_script.specs.declared.command.Command.TheVariants.{Add as AddOf, Replace as ReplaceOf, Remove as RemoveOf, Attach as AttachOf, Reattach as ReattachOf, Detach as DetachOf, SetMeta as SetMetaOf, Region as RegionOf, List as ListOf, Info as InfoOf, Map as MapOf, Check as CheckOf, Long as LongOf}
+use Rattle.czi_script.specs.declared.command.Command.TheVariants.{Add as AddOf, Replace as ReplaceOf, Remove as RemoveOf, Attach as AttachOf, Reattach as ReattachOf, Detach as DetachOf, SetMeta as SetMetaOf, Undo as UndoOf, Region as RegionOf, List as ListOf, Info as InfoOf, Map as MapOf, Check as CheckOf, Long as LongOf}
 use Rattle.czi_script.specs.declared.head.Head.{Head as CodeHead}
 use Rattle.czi_script.specs.declared.head.Head.TheVariants.{Alone as AloneOf, Brings as BringsOf}
 use Rattle.czi_script.specs.declared.head.Plain.{Plain as CodePlain}
-use Rattle.czi_script.specs.declared.head.Plain.TheVariants.{Remove as RemoveLine, Detach as DetachLine, Region as RegionLine, List as ListLine, Info as InfoLine, Map as MapLine, Check as CheckLine}
+use Rattle.czi_script.specs.declared.head.Plain.TheVariants.{Remove as RemoveLine, Detach as DetachLine, Undo as UndoLine, Region as RegionLine, List as ListLine, Info as InfoLine, Map as MapLine, Check as CheckLine}
 use Rattle.czi_script.specs.declared.payload.Payload.{Payload as CodePayload}
 use Rattle.czi_script.specs.declared.payload.Payload.TheVariants.{Tile as TileOf, Attachment as AttachmentOf, Metadata as MetadataOf}
 use Rattle.czi_script.specs.declared.payload.Attachment.{Attachment as CodeAttachment}
@@ -16,7 +16,7 @@ use Rattle.czi_script.specs.declared.payload.Pieces.{Pieces as CodePieces}
 use Rattle.czi_script.specs.declared.payload.Tile.{Tile as CodeTile}
 use Rattle.czi_script.specs.declared.payload.Verb.{Verb as CodeVerb}
 use Rattle.czi_script.specs.declared.payload.Verb.TheVariants.{Add as AddVerb, Replace as ReplaceVerb}
-use Rattle.czi_script.specs.Script.{Command, Add, Replace, Remove, Attach, Reattach, Detach, SetMeta, Region, Listing, Info, Map, Check, Past, Verb, Adds, Replaces, Plain, Removes, Detaches, Paints, Lists, Tells, Maps, Checks, Payload, Tile, Attachment, Metadata, Head, Alone, Brings, Piece}
+use Rattle.czi_script.specs.Script.{Command, Add, Replace, Remove, Attach, Reattach, Detach, SetMeta, Undo, Region, Listing, Info, Map, Check, Past, Verb, Adds, Replaces, Plain, Removes, Detaches, Undoes, Paints, Lists, Tells, Maps, Checks, Payload, Tile, Attachment, Metadata, Head, Alone, Brings, Piece}
 
 abbrev pub command_of : CodeCommand → Command
 command_of (AddOf info meta pixels tail) = Add (info_of info) (bytes_of meta) (bytes_of pixels) (bytes_of tail)
@@ -26,6 +26,7 @@ command_of (AttachOf info bytes) = Attach (att_of info) (bytes_of bytes)
 command_of (ReattachOf info bytes) = Reattach (att_of info) (bytes_of bytes)
 command_of (DetachOf name) = Detach (bytes_of name)
 command_of (SetMetaOf xml tail) = SetMeta (bytes_of xml) (bytes_of tail)
+command_of UndoOf = Undo
 command_of (RegionOf query) = Region (query_of query)
 command_of ListOf = Listing
 command_of InfoOf = Info
@@ -40,6 +41,7 @@ verb_of ReplaceVerb = Replaces
 abbrev pub plain_of : CodePlain → Plain
 plain_of (RemoveLine dims) = Removes (dims_of dims)
 plain_of (DetachLine name) = Detaches (bytes_of name)
+plain_of UndoLine = Undoes
 plain_of (RegionLine query) = Paints (query_of query)
 plain_of ListLine = Lists
 plain_of InfoLine = Tells

@@ -58,6 +58,8 @@ pub enum Command {
         /// What is attached to it.
         tail: Bytes,
     },
+    /// `undo`: the last edit that isn't undone yet is to be undone.
+    Undo,
     /// `region`: a region of the image is to be painted.
     Region {
         /// What is asked for.

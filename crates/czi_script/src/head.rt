@@ -15,6 +15,8 @@ pub(crate) enum Plain {
     Remove(Dims),
     /// The attachment with this name is to go.
     Detach(Bytes),
+    /// The last edit is to be undone.
+    Undo,
     /// This region is to be painted.
     Region(Query),
     /// The subblocks are to be listed.
@@ -44,6 +46,7 @@ impl Plain {
         match self {
             Plain::Remove(dims) => Command::Remove { dims },
             Plain::Detach(name) => Command::Detach { name },
+            Plain::Undo => Command::Undo,
             Plain::Region(query) => Command::Region { query },
             Plain::List => Command::List,
             Plain::Info => Command::Info,

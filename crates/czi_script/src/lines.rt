@@ -47,7 +47,7 @@ pub(crate) fn front_of(bytes: &[u8], seen: usize) -> Front
 }
 
 /// The command words of the format that aren't built yet.
-const LATER_WORDS: [&str; 2] = ["undo", "repack"];
+const LATER_WORDS: [&str; 1] = ["repack"];
 
 /// Whether the bytes are this text.
 fn is_text(bytes: &[u8], text: &str) -> bool
@@ -89,6 +89,8 @@ pub(crate) fn head_in(alloc: Global, line: &[u8]) -> Result<Head, Refusal>
         detach_in(alloc, fields)
     } else if is_text(word, "meta") {
         metadata_in(fields)
+    } else if is_text(word, "undo") {
+        bare_in(Plain::Undo, fields)
     } else if is_text(word, "region") {
         region_in(alloc, fields)
     } else if is_text(word, "list") {
