@@ -22,7 +22,7 @@ use Rattle.czi_machine.proofs.Cover.{cover-append}
 use Rattle.czi_machine.proofs.Placing.{cover-live_places}
 use Rattle.czi_plan.specs.Plan.{used_of}
 use Rattle.czi_plan.specs.declared.plan.EditPlan.{EditPlan}
-use Rattle.czi_engine.specs.Moment.{BringsApart}
+use Rattle.czi_plan.specs.Apart.{BringsApart}
 use Rattle.czi_engine.specs.declared.engine.EngineState.{EngineState}
 use Rattle.czi_engine.proofs.Going.{items_at}
 use Rattle.std.proofs.lemmas.Simd.{map-map}

@@ -31,7 +31,7 @@ use Rattle.czi_engine.proofs.Fresh.{begins, opened_fresh}
 use Rattle.czi_rig.proofs.Runs.{started, weaker}
 use Rattle.czi_opening.proofs.Restoring.{synced_devices}
 use Rattle.czi_opening.proofs.Standing.{both_rest, from_synced}
-use Rattle.czi_engine.specs.Creating.{Creates, CreatesFrom, CreatesIn, KeepsBoth, create_error}
+use Rattle.czi_engine.specs.Creating.{Creates, CreatesFrom, CreatesIn, KeepsBoth, create_device, create_error}
 
 -- of files that are on the disk a crash leaves what was read
 rest_kept : (all : Devices) (image journal said : List ℕ) → LeavesNow (both_rest all) image journal said → KeepsBoth all image journal said
@@ -118,3 +118,9 @@ module _ (s : State) (bytes : List ℕ) (made : ForSome (known s Image) (λ (d :
 -- a file that was made so, whatever it was
 pub made_so : (old new : State) (bytes : List ℕ) → known new Image ≡ option_map (λ (d : Disk). at_rest bytes) (known old Image) → ForSome (known new Image) (λ (d : Disk). d ≡ at_rest bytes)
 made_so old new bytes is disk now = (came_from (known old Image) (known new Image) (λ (d : Disk). at_rest bytes) disk is now).is
+
+-- the error tells the device of the fault
+pub same_device : (fault : CreationFault) → creation_device fault ≡ create_device (create_error fault)
+same_device (creation.NotEmpty length) = refl
+same_device creation.Image = refl
+same_device creation.Journal = refl

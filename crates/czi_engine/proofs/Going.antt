@@ -47,7 +47,8 @@ use Rattle.czi_space.specs.State.{MapState, Has}
 use Rattle.czi_engine.specs.Commit.{IsPlanned, made_of, pieces_in}
 use Rattle.czi_engine.specs.Free.{LiesFree}
 use Rattle.czi_engine.specs.Holes.{AreHigh, view_of}
-use Rattle.czi_engine.specs.Moment.{AlikeInItems, item_segments, BringsApart}
+use Rattle.czi_engine.specs.Moment.{AlikeInItems}
+use Rattle.czi_plan.specs.Apart.{item_segments, BringsApart}
 use Rattle.czi_engine.specs.Prepared.{GoesBy, HasMemory, IsPrepared}
 use Rattle.czi_undo.specs.Holding.{holds_of}
 use Rattle.czi_undo.specs.declared.inverse.Inverse.{Inverse}
@@ -309,7 +310,7 @@ goes_same go bytes live s x y kept same scratch by =
     subst (λ (c : Scratch). GoesBy go bytes live s (record { state = y.state; scratch = c }) kept) (sym scratch) here
 
 -- so the plan stays prepared
-pub prepared_after : (go : Goes) (x y : Engine) (kept : List Inverse) → AsBefore x.state y.state → y.scratch ≡ x.scratch → HasMemory y → FewKept kept → IsPlan x.state.index x.state.map x.scratch.region x.scratch.plan
+pub prepared_after : (go : Goes) (x y : Engine) (kept : List Inverse) → AsBefore x.state y.state → y.scratch ≡ x.scratch → HasMemory y.state y.scratch.plan → FewKept kept → IsPlan x.state.index x.state.map x.scratch.region x.scratch.plan
     → ((o : Origin) (bytes : List ℕ) (live : Live) (s : State) → HasState o bytes live s x.state → GoesBy go bytes live s x kept) → IsPrepared go y kept
 prepared_after go x y kept same scratch memory few plan means = record {
   plan = subst (λ (c : Scratch). IsPlan y.state.index y.state.map c.region c.plan) (sym scratch) (plan_same x.state.index y.state.index same.index x.state.map y.state.map same.map x.scratch.region x.scratch.plan plan);

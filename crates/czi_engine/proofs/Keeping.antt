@@ -46,7 +46,8 @@ use Rattle.czi_engine.proofs.Openable.{recovered_opens}
 use Rattle.czi_engine.proofs.Outside.{stands_outside, live_outside, covered}
 use Rattle.czi_engine.proofs.Reading.{alone_shows, shows_whole}
 use Rattle.czi_engine.specs.Commit.{made_of, pieces_in, IsStep, IsPlanned}
-use Rattle.czi_engine.specs.Moment.{AlikeInItems, BringsApart, item_segments}
+use Rattle.czi_engine.specs.Moment.{AlikeInItems}
+use Rattle.czi_plan.specs.Apart.{BringsApart, item_segments}
 use Rattle.czi_engine.specs.Rests.{RestsOn}
 use Rattle.czi_engine.proofs.Committed.{commit_stands}
 use Rattle.czi_engine.proofs.Made.{made_wrote}

@@ -15,3 +15,5 @@ pub mod Inverting
 pub mod Planned
 pub mod Same
 pub mod Created
+pub mod Newest
+pub mod Room

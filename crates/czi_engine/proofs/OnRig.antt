@@ -1,6 +1,6 @@
 -- A prepared plan carried out on a rig: what an edit keeps to.
 use Rattle.std.proofs.Common.{◌≡◌, ◌⊎◌, ℕ, zero, suc, ◌≤◌, [], ◌∷◌, List, map, take, length, Option, None, Some, Result, Ok, Err, option_map, true, true≢false, refl, ap, sym, ◌∙◌, subst, arith, inl, inr, ⊎_elim}
-use Rattle.std.specs.Prelude.{IsTrue, IsFalse, slice_index}
+use Rattle.std.specs.Prelude.{IsErrAnd, IsTrue, IsFalse, slice_index}
 use Rattle.std.specs.Option.{ForSome}
 use Rattle.std.proofs.lemmas.Option.{same_Some}
 use Rattle.std.proofs.lemmas.List.{length-take}
@@ -36,18 +36,18 @@ use Rattle.czi_rig.specs.Faults.{Faults}
 use Rattle.czi_vault.specs.Devices.{vault_device}
 use Rattle.czi_vault.specs.declared.committing.VaultFault.{VaultFault}
 use Rattle.czi_vault.specs.declared.committing.VaultFault.TheVariants as Vault
-use Rattle.czi_engine.specs.Devices.{Fault, of_refusal, of_memory, of_device, device_in, edit_fault, is_device}
+use Rattle.czi_engine.specs.Devices.{Fault, of_refusal, of_memory, of_device, device_in, edit_fault, is_device, undo_fault}
 use Rattle.czi_engine.specs.Edited.{Commands, OnFiles, OnImage}
-use Rattle.czi_engine.specs.Editing.{Accepts, Alike, AsBefore, DuringEdit, Goes, Refuses, error_of}
+use Rattle.czi_engine.specs.Editing.{Accepts, Alike, AsBefore, DuringEdit, Goes, Refuses, error_of, undo_error_of}
 use Rattle.czi_engine.specs.Holes.{AreHigh, view_of}
-use Rattle.czi_engine.specs.Prepared.{IsPrepared}
+use Rattle.czi_engine.specs.Prepared.{IsPrepared, IsSameButDown}
 use Rattle.czi_undo.specs.declared.inverse.Inverse.{Inverse}
 use Rattle.czi_engine.specs.Standing.{FewKept, HasItsMap, HasSome, HasState, IsItself, Origin, StandsOnRig, origin_in}
 use Rattle.czi_engine.specs.declared.engine.Engine.{Engine}
 use Rattle.czi_engine.specs.declared.engine.EngineState.{EngineState}
 use Rattle.czi_engine.proofs.Going.{has_next, high, kept_next, leaves_100, made_by, stands_next, touches, turn, writes_free}
 use Rattle.czi_engine.proofs.Keeping.{rests_stands, during_edit, one_alike}
-use Rattle.czi_engine.proofs.Same.{same_has}
+use Rattle.czi_engine.proofs.Same.{same_has, stays_has}
 
 seen_is : (o : Option Disk) (disk : Disk) (bytes : List ℕ) → o ≡ Some disk → option_map (λ (d : Disk). d.seen) o ≡ Some bytes → disk.seen ≡ bytes
 seen_is o disk bytes is seen = same_Some disk.seen bytes (sym (ap (option_map (λ (d : Disk). d.seen)) is) ∙ seen)
@@ -165,6 +165,14 @@ no_cause s (of_device device) off = absurd (true≢false off)
 pub failed_device : (fault : VaultFault) → is_device (edit_fault (error_of fault)) ≡ true
 failed_device Vault.Image = refl
 failed_device Vault.Journal = refl
+
+pub undo_failed_device : (fault : VaultFault) → is_device (undo_fault (undo_error_of fault)) ≡ true
+undo_failed_device Vault.Image = refl
+undo_failed_device Vault.Journal = refl
+
+pub undo_failed_at_device : (fault : VaultFault) → vault_device fault ≡ device_in (undo_fault (undo_error_of fault))
+undo_failed_at_device Vault.Image = refl
+undo_failed_at_device Vault.Journal = refl
 
 pub failed_at_device : (fault : VaultFault) → vault_device fault ≡ device_in (edit_fault (error_of fault))
 failed_at_device Vault.Image = refl
@@ -298,3 +306,44 @@ edited_from_err tells rig old new x z y go error same e = record {
 pub edited_as : {D E : Type 0} (tells : E → Fault) (rig : Ghosts D) (old new : D) (x z y : EngineState) (go : Goes) (result : Result ℕ E) → AsBefore x z → Commands tells rig go old new z y result → Commands tells rig go old new x y result
 edited_as tells rig old new x z y go (Ok number) same e = edited_from tells rig old new x z y go number same e
 edited_as tells rig old new x z y go (Err error) same e = edited_from_err tells rig old new x z y go error same e
+
+-- a command that was carried out, told by an engine that was as this one, but that it wasn't down
+pub edited_up : {D E : Type 0} (tells : E → Fault) (rig : Ghosts D) (old new : D) (x z y : EngineState) (go : Goes) (number : ℕ) → IsSameButDown x z → Commands tells rig go old new z y (Ok number) → Commands tells rig go old new x y (Ok number)
+edited_up tells rig old new x z y go number same e = record {
+  moments = λ all is o live s has. e.moments all is o live s (stays_has x z same o all.image.seen live s has);
+  alike = λ all is o live s has. e.alike all is o live s (stays_has x z same o all.image.seen live s has);
+  accepted = λ bytes seen o live s has. e.accepted bytes seen o live s (stays_has x z same o bytes live s has);
+  stands = e.stands;
+  up = e.up;
+  armed = e.armed;
+  refused = tt;
+  refuses = λ bytes seen o live s has. e.refuses bytes seen o live s (stays_has x z same o bytes live s has);
+  quiet = tt;
+  down = tt;
+  said = e.said;
+  goes_on = e.goes_on;
+  cause = e.cause;
+}
+
+-- or that a device failed
+pub edited_down : {D E : Type 0} (tells : E → Fault) (rig : Ghosts D) (old new : D) (x z y : EngineState) (go : Goes) (error : E) → IsTrue (is_device (tells error)) → IsSameButDown x z → Commands tells rig go old new z y (Err error) → Commands tells rig go old new x y (Err error)
+edited_down tells rig old new x z y go error device same e = record {
+  moments = λ all is o live s has. e.moments all is o live s (stays_has x z same o all.image.seen live s has);
+  alike = λ all is o live s has. e.alike all is o live s (stays_has x z same o all.image.seen live s has);
+  accepted = tt;
+  stands = tt;
+  up = tt;
+  armed = tt;
+  refused = λ bytes seen o live s has. e.refused bytes seen o live s (stays_has x z same o bytes live s has);
+  refuses = λ bytes seen o live s has. e.refuses bytes seen o live s (stays_has x z same o bytes live s has);
+  quiet = λ off. absurd (true≢false (sym device ∙ off));
+  down = e.down;
+  said = e.said;
+  goes_on = e.goes_on;
+  cause = e.cause;
+}
+
+-- the answer of a command that isn't done
+pub answered : {D E : Type 0} (tells : E → Fault) (rig : Ghosts D) (old new : D) (x y : EngineState) (go : Goes) (error : E) (result : Result ℕ E) → IsErrAnd result (λ e. e ≡ error) → Commands tells rig go old new x y (Err error) → Commands tells rig go old new x y result
+answered tells rig old new x y go error (Ok n) none done = absurd none
+answered tells rig old new x y go error (Err e) is done = subst (λ z. Commands tells rig go old new x y (Err z)) (sym is) done

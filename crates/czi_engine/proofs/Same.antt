@@ -22,12 +22,15 @@ use Rattle.czi_undo.specs.Holding.{holds_of}
 use Rattle.czi_undo.specs.declared.inverse.Inverse.{Inverse}
 use Rattle.czi_engine.specs.Standing.{BringBack, FewKept, HasItsMap, HasState, HoldBack, Origin, StandsOnRig, held_by}
 use Rattle.czi_engine.specs.declared.engine.EngineState.{EngineState}
-use Rattle.czi_engine.specs.Prepared.{HasMemory, KeepsPlan, edits_after}
+use Rattle.czi_region.specs.Pieces.{bytes_put, room}
+use Rattle.czi_engine.specs.Prepared.{CanKeep, HasMemory, IsSameButDown, IsUndoing, KeepsPlan, edits_after}
+use Rattle.czi_engine.specs.UndoMemory.{CanGoOn}
+use Rattle.czi_engine.specs.declared.reserve.UndoMemory.{UndoMemory}
 use Rattle.czi_engine.specs.declared.engine.Engine.{Engine}
 
-module _ (x y : EngineState) (same : AsBefore x y) where
-  pub same_has : (o : Origin) (bytes : List ℕ) (live : Live) (s : MachineState) → HasState o bytes live s x → HasState o bytes live s y
-  same_has o bytes live s has = record {
+module _ (x y : EngineState) (same : IsSameButDown x y) where
+  pub stays_has : (o : Origin) (bytes : List ℕ) (live : Live) (s : MachineState) → HasState o bytes live s x → HasState o bytes live s y
+  stays_has o bytes live s has = record {
     stands = has.stands;
     holds = holds_still x.index y.index live same.index has.holds;
     lies = lies_still x.index y.index s.layout same.index has.lies;
@@ -37,23 +40,36 @@ module _ (x y : EngineState) (same : AsBefore x y) where
     kept = has.kept;
   }
 
-  pub same_map : HasItsMap x → HasItsMap y
-  same_map own = record {
+  pub stays_map : HasItsMap x → HasItsMap y
+  stays_map own = record {
     extents = same.map.extents ∙ (own.extents ∙ ap (map span_of) (sym same.index.extents));
     held = same.map.held ∙ (own.held ∙ ap (λ is. held_by (map holds_of is)) (sym same.edits));
     length = same.map.length ∙ (own.length ∙ sym same.index.length);
   }
 
-  pub same_stands : (s : State) → StandsOnRig s x → StandsOnRig s y
-  same_stands s on = record {
+  pub stays_stands : (s : State) → StandsOnRig s x → StandsOnRig s y
+  stays_stands s on = record {
     image = on.image;
     itself = on.itself;
-    state = λ bytes is. let some = on.state bytes is in record { start = some.start; live = some.live; state = some.state; has = same_has some.start bytes some.live some.state some.has };
+    state = λ bytes is. let some = on.state bytes is in record { start = some.start; live = some.live; state = some.state; has = stays_has some.start bytes some.live some.state some.has };
     armed = subst (λ j. ForSome (known s Journal) (Everywhere (IsJournal j))) (sym same.journal) on.armed;
     idle = λ off. on.idle (sym (ap (λ j. j.armed) same.journal) ∙ off);
-    own_map = same_map on.own_map;
+    own_map = stays_map on.own_map;
     few = subst FewKept (sym same.edits) on.few;
   }
+
+but_down : (x y : EngineState) → AsBefore x y → IsSameButDown x y
+but_down x y same = record { journal = same.journal; index = same.index; map = same.map; edits = same.edits; number = same.number }
+
+module _ (x y : EngineState) (same : AsBefore x y) where
+  pub same_has : (o : Origin) (bytes : List ℕ) (live : Live) (s : MachineState) → HasState o bytes live s x → HasState o bytes live s y
+  same_has = stays_has x y (but_down x y same)
+
+  pub same_map : HasItsMap x → HasItsMap y
+  same_map = stays_map x y (but_down x y same)
+
+  pub same_stands : (s : State) → StandsOnRig s x → StandsOnRig s y
+  same_stands = stays_stands x y (but_down x y same)
 
 module _ (x z : Engine) (k : KeepsPlan x z) where
   pub plan_carried : IsPlan x.state.index x.state.map x.scratch.region x.scratch.plan → IsPlan z.state.index z.state.map z.scratch.region z.scratch.plan
@@ -63,13 +79,34 @@ module _ (x z : Engine) (k : KeepsPlan x z) where
       (subst (λ (r : Region). IsPlan x.state.index x.state.map r z.scratch.plan) (sym k.region)
       (subst (λ (e : EditPlan). IsPlan x.state.index x.state.map x.scratch.region e) (sym k.plan) p)))
 
-  pub memory_carried : HasMemory x → HasMemory z
+  pub memory_carried : HasMemory x.state x.scratch.plan → HasMemory z.state z.scratch.plan
   memory_carried h = record {
     spare = subst (λ (e : EditPlan). 2 * length e.used.items + 2 * length e.freed.items + 1 ≤ z.state.map.spare) (sym k.plan)
         (subst (λ (m : MapState). 2 * length x.scratch.plan.used.items + 2 * length x.scratch.plan.freed.items + 1 ≤ m.spare) (sym k.map) h.spare);
     index = subst (λ (e : EditPlan). HasRoom e.change (length z.state.map.extents + (2 * length e.used.items + 2 * length e.freed.items)) z.state.index) (sym k.plan)
         (subst (λ (m : MapState). HasRoom x.scratch.plan.change (length m.extents + (2 * length x.scratch.plan.used.items + 2 * length x.scratch.plan.freed.items)) z.state.index) (sym k.map)
         (subst (λ (i : Index). HasRoom x.scratch.plan.change (length x.state.map.extents + (2 * length x.scratch.plan.used.items + 2 * length x.scratch.plan.freed.items)) i) (sym k.index) h.index));
+  }
+
+  pub go_on_carried : (n count size : ℕ) → CanGoOn n x.state.index x.state.map x.scratch.plan count size → CanGoOn n z.state.index z.state.map z.scratch.plan count size
+  go_on_carried n count size can =
+      subst (λ (i : Index). CanGoOn n i z.state.map z.scratch.plan count size) (sym k.index)
+      (subst (λ (m : MapState). CanGoOn n x.state.index m z.scratch.plan count size) (sym k.map)
+      (subst (λ (e : EditPlan). CanGoOn n x.state.index x.state.map e count size) (sym k.plan) can))
+
+  pub keep_carried : CanKeep x.state x.scratch.plan → CanKeep z.state z.scratch.plan
+  keep_carried can =
+      subst (λ (n : ℕ). CanGoOn n z.state.index z.state.map z.scratch.plan (vec_len z.state.undos.plans) (room z.state.undos.region)) (ap (λ is. 1 + length is) (sym k.edits))
+      (subst (λ (u : UndoMemory). CanGoOn (1 + length x.state.edits) z.state.index z.state.map z.scratch.plan (vec_len u.plans) (room u.region)) (sym k.undos)
+      (go_on_carried (1 + length x.state.edits) (vec_len x.state.undos.plans) (room x.state.undos.region) can))
+
+  pub undoing_carried : IsUndoing x → IsUndoing z
+  undoing_carried u = record {
+    others = u.others;
+    one = ap length k.edits ∙ u.one;
+    memory = subst (λ (r : Region). CanGoOn u.others z.state.index z.state.map z.scratch.plan (vec_len z.state.undos.plans) (room r + length (bytes_put r))) (sym k.region)
+        (subst (λ (w : UndoMemory). CanGoOn u.others z.state.index z.state.map z.scratch.plan (vec_len w.plans) (room x.scratch.region + length (bytes_put x.scratch.region))) (sym k.undos)
+        (go_on_carried u.others (vec_len x.state.undos.plans) (room x.scratch.region + length (bytes_put x.scratch.region)) u.memory));
   }
 
   pub map_carried : HasItsMap x.state → HasItsMap z.state

@@ -23,7 +23,8 @@ use Rattle.czi_vault.specs.Recovered.{Recovered, Stands, StandsNow, StandsOr, Is
 use Rattle.czi_engine.specs.Commit.{written, made_of, pieces_in, IsStep, IsPlanned}
 use Rattle.czi_engine.specs.Free.{LiesFree, HoldsUsable}
 use Rattle.czi_engine.specs.Holes.{holes_of, AreHigh, view_of}
-use Rattle.czi_engine.specs.Moment.{AlikeInItems, BringsApart}
+use Rattle.czi_engine.specs.Moment.{AlikeInItems}
+use Rattle.czi_plan.specs.Apart.{BringsApart}
 use Rattle.czi_engine.specs.Rests.{RestsOn}
 use Rattle.czi_engine.specs.Stands.{Opens, OpensAs, ShowsWhole, EitherSide, StandsOn}
 use Rattle.czi_format.specs.declared.numbers.TheConstants.{UPDATE_PENDING}

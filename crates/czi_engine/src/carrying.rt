@@ -1,6 +1,6 @@
 //! Carrying a plan out on the files.
 
-ghost use Rattle.std.specs.Prelude.{◌≡◌, List, ℕ, slice_index, OnOk, IsTrue, IsFalse, option_map};
+ghost use Rattle.std.specs.Prelude.{◌≡◌, List, ℕ, slice_index, OnOk, IsTrue, option_map};
 ghost use Rattle.std.specs.Option.{ForSome};
 ghost use Rattle.czi_commit.specs.Filled.{AreFree, filled};
 ghost use Rattle.czi_commit.specs.Made.{made, step_of};
@@ -30,7 +30,6 @@ impl Engine {
     /// Carries the plan out. The engine is down until the plan is taken over.
     pub(crate) fn commit_prepared<R: Rig>(&mut self, rig: &mut R) -> Result<(), VaultFault>
         requires stands { StandsOnRig (R.state rig.old) self.old.state }
-        requires up { IsFalse self.old.state.down }
         requires plan { IsPlan self.old.state.index self.old.state.map self.old.scratch.region self.old.scratch.plan }
 
         ensures moments { ForSome (devices (R.state rig.old)) (λ all. (view : View) → StandsNow view all → HasBytes view all.image.seen → slice_index all.image.seen UPDATE_PENDING ≡ 0
@@ -47,18 +46,20 @@ impl Engine {
         ensures goes_on { GoesOn (R.state rig.old) (R.state rig.new) }
         ensures cause { Faults (fault_at vault_device result) (R.state rig.old) (R.state rig.new) }
     {
+        let state = &mut self.state;
+        let scratch = &mut self.scratch;
         let file = SlotHead {
-            guid: self.state.index.header.guid(),
-            length: self.state.index.length,
+            guid: state.index.header.guid(),
+            length: state.index.length,
         };
-        self.state.down = true;
+        state.down = true;
         carry_out(
             rig,
-            &mut self.state.journal,
+            &mut state.journal,
             &file,
-            &self.scratch.region,
-            &self.scratch.plan,
-            &mut self.scratch.slot,
+            &scratch.region,
+            &scratch.plan,
+            &mut scratch.slot,
         )
     }
 }

@@ -3,7 +3,7 @@
 ghost use Rattle.std.specs.Prelude.{◌≡◌, Result, IfOk, IfErr, IsFalse};
 ghost use Rattle.czi_engine.specs.Edited.{Edits};
 ghost use Rattle.czi_engine.specs.Editing.{Goes};
-ghost use Rattle.czi_engine.specs.Prepared.{IsPrepared, Prepares, edits_after};
+ghost use Rattle.czi_engine.specs.Prepared.{CanKeep, IsPrepared, Prepares, edits_after};
 ghost use Rattle.czi_engine.specs.Standing.{StandsOnRig};
 ghost use Rattle.czi_engine.specs.declared.engine.Engine.{Engine as EngineValue};
 
@@ -18,6 +18,7 @@ impl Engine {
         requires stands { StandsOnRig (R.state rig.old) self.old.state }
         requires up { IsFalse self.old.state.down }
         requires prepared { (go : Goes) × IsPrepared go self.old (edits_after inverse self.old.state) }
+        requires keeps { CanKeep self.old.state self.old.scratch.plan }
         ensures { (go : Goes) → IsPrepared go self.old (edits_after inverse self.old.state) → Edits R.Rig go rig.old rig.new self.old.state self.new.state result }
     {
         match self.commit_prepared(rig) {

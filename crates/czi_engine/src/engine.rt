@@ -2,7 +2,9 @@
 
 ghost use Rattle.std.specs.Prelude.{◌≡◌, vec_len};
 ghost use Rattle.czi_links.specs.declared.numbers.TheConstants.{SLOT_LEN};
+ghost use Rattle.czi_engine.specs.UndoMemory.{CanUndo};
 
+use crate::reserve::UndoMemory;
 use czi_image::{Index, Tile};
 use czi_journal::Journal;
 use czi_plan::EditPlan;
@@ -19,8 +21,11 @@ pub(crate) struct EngineState {
     pub(crate) map: Map,
     /// What undoes the last 32 accepted edits, the newest first. The map holds back what they bring back.
     pub(crate) edits: UndoList,
+    /// Memory for the undos of these edits: none of them takes any.
+    pub(crate) undos: UndoMemory,
     pub(crate) number: u64,
     pub(crate) down: bool,
+    pub ghost ready: { CanUndo down edits index map undos },
 }
 
 /// Memory that is kept from edit to edit, and where more of it comes from: the bytes of new segments, their plan, and a slot of the journal before it

@@ -16,7 +16,9 @@ mod metadata;
 mod opening;
 mod planning;
 mod preparing;
+mod reserve;
 mod subblocks;
+mod taking_back;
 mod undoing;
 
 pub use creating::CreateError;

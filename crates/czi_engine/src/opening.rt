@@ -19,6 +19,7 @@ ghost use Rattle.czi_vault.specs.Recovered.{Recovered};
 ghost use Rattle.czi_engine.specs.Standing.{IsOf, IsOpened, StandsOnRig};
 
 use crate::engine::{Engine, EngineState, Scratch};
+use crate::reserve::UndoMemory;
 use czi_image::Index;
 use czi_links::SLOT_LEN;
 use czi_opening::{OpenError, Opened, close, open};
@@ -85,6 +86,7 @@ impl Engine {
             index: opened.index,
             map,
             edits,
+            undos: UndoMemory::new(alloc),
             number: 0,
             down: false,
         };
@@ -135,11 +137,13 @@ impl Engine {
         ensures number { self.new.state.number ≡ self.old.state.number }
         ensures same { OnErr result (self.new ≡ self.old) }
     {
-        self.state.map = map_of(self.scratch.alloc, &opened.index)?;
-        self.state.index = opened.index;
-        self.state.journal = opened.journal;
-        self.state.edits.clear();
-        self.state.down = false;
+        let map = map_of(self.scratch.alloc, &opened.index)?;
+        let state = &mut self.state;
+        state.map = map;
+        state.index = opened.index;
+        state.journal = opened.journal;
+        state.edits.clear();
+        state.down = false;
         Ok(())
     }
 

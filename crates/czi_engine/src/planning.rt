@@ -5,7 +5,7 @@ ghost use Rattle.czi_machine.specs.Edit.{Edit};
 ghost use Rattle.czi_machine.specs.Machine.{after_edit};
 ghost use Rattle.czi_plan.specs.Conditions.{IsEmpty, IsMapOf};
 ghost use Rattle.czi_plan.specs.Does.{Does, HasNoPlan};
-ghost use Rattle.czi_plan.specs.Plan.{IsPlan};
+ghost use Rattle.czi_plan.specs.Plan.{IsBrief, IsPlan};
 ghost use Rattle.czi_region.specs.Pieces.{bytes_put};
 ghost use Rattle.czi_engine.specs.Prepared.{Prepares};
 ghost use Rattle.czi_engine.specs.Standing.{FewKept, HasItsMap};
@@ -67,6 +67,7 @@ impl<'a> Task<'a> {
         ensures plan { OnOk result (IsPlan index.now map.now region.new out.new) }
         ensures does { OnOk result (Does index.now map.now region.new out.new (effect_of self.entry index.now)) }
         ensures held { OnOk result (length out.new.held.items ≤ 1) }
+        ensures brief { OnOk result (IsBrief out.new) }
         ensures full { IfErr result (HasNoPlan index.now map.now (effect_of self.entry index.now)) }
     {
         match self {
@@ -95,15 +96,17 @@ impl Engine {
         requires allowed { IsAllowed task self.old.state.index }
         ensures { (c : Edit) → Means self.old.state c (Ok (effect_of task.entry self.old.state.index)) → Prepares (λ s. after_edit s c) self.old self.new result }
     {
-        self.scratch.region.reset();
-        self.scratch.plan.clear();
+        let state = &self.state;
+        let scratch = &mut self.scratch;
+        scratch.region.reset();
+        scratch.plan.clear();
         task.plan(
-            &self.state.index,
-            &self.state.map,
-            &mut self.scratch.region,
-            &mut self.scratch.plan,
+            &state.index,
+            &state.map,
+            &mut scratch.region,
+            &mut scratch.plan,
         )?;
-        let inverse = task.inverse(self.scratch.alloc, &self.state.index)?;
+        let inverse = task.inverse(scratch.alloc, &state.index)?;
         self.take_memory()?;
         Ok(inverse)
     }

@@ -39,8 +39,11 @@ returns c =
     let i : Inverse = c.in_ok-inverse.inverse in
     λ edit means. record {
       same = m.same;
-      ready = prepared_after (λ s. after_edit s edit) z y (edits_after i y.state) m.same refl m.memory (subst (λ is. FewKept (i ∷ take 31 is)) (sym m.same.edits) (few_after x.state c.args.task i undoes c.requires.few)) plan
-          (subst (λ is. (o : Origin) (bytes : List ℕ) (live : Live) (s : State) → HasState o bytes live s x.state → GoesBy (λ s. after_edit s edit) bytes live s z (i ∷ take 31 is)) (sym m.same.edits)
-          (plan_means z edit c.args.task i c.requires.own_map undoes means plan does));
+      ready = (
+        prepared_after (λ s. after_edit s edit) z y (edits_after i y.state) m.same refl m.memory (subst (λ is. FewKept (i ∷ take 31 is)) (sym m.same.edits) (few_after x.state c.args.task i undoes c.requires.few)) plan
+            (subst (λ is. (o : Origin) (bytes : List ℕ) (live : Live) (s : State) → HasState o bytes live s x.state → GoesBy (λ s. after_edit s edit) bytes live s z (i ∷ take 31 is)) (sym m.same.edits)
+            (plan_means z edit c.args.task i c.requires.own_map undoes means plan does)),
+        m.keeps,
+      );
       refusal = tt;
     }

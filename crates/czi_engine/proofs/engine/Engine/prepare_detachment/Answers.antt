@@ -3,7 +3,6 @@ use Rattle.std.proofs.lemmas.List.{length-map}
 use Rattle.czi_image.specs.View.{att_item_of}
 use Rattle.czi_machine.specs.Change.{out}
 use Rattle.czi_machine.specs.Edit.{detach, in_attachments, no_key}
-use Rattle.czi_plan.specs.Search.{attachment_with}
 use Rattle.czi_engine.specs.Devices.{refusal_of}
 use Rattle.czi_engine.proofs.Planned.{at_found, attachment_inside, detachment_means, means_as, refused}
 use Rattle.czi_engine.proofs.engine.Engine.prepare_detachment.Goals as goal

@@ -4,7 +4,6 @@ use Rattle.czi_doc.specs.View.{dims_of}
 use Rattle.czi_image.specs.View.{tile_of}
 use Rattle.czi_machine.specs.Change.{out}
 use Rattle.czi_machine.specs.Edit.{in_subblocks, no_key, remove}
-use Rattle.czi_plan.specs.Search.{tile_with}
 use Rattle.czi_engine.specs.Devices.{refusal_of}
 use Rattle.czi_engine.proofs.Planned.{at_found, means_as, refused, removal_means, tile_inside}
 use Rattle.czi_engine.proofs.engine.Engine.prepare_removal.Goals as goal

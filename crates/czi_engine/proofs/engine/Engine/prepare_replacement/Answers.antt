@@ -6,7 +6,6 @@ use Rattle.czi_image.specs.View.{tile_of}
 use Rattle.czi_machine.specs.Change.{put}
 use Rattle.czi_machine.specs.Edit.{in_subblocks, no_key, replace}
 use Rattle.czi_plan.specs.Bringing.{subblock_in}
-use Rattle.czi_plan.specs.Search.{tile_with}
 use Rattle.czi_engine.specs.Devices.{refusal_of}
 use Rattle.czi_engine.specs.Limits.{subblock_pieces}
 use Rattle.czi_engine.proofs.Planned.{at_found, limit_passes, limit_refuses, means_as, refused, replacement_means, short_pieces, tile_inside}

@@ -1,4 +1,4 @@
-use Rattle.std.proofs.Common.{◌<◌, length, refl, subst, sym}
+use Rattle.std.proofs.Common.{refl, subst, sym}
 use Rattle.czi_undo.specs.Parts.{LainPart, in_attachments, in_tiles, inserts, puts}
 use Rattle.czi_engine.specs.Inverting.{IsUndoneBy, lain_attachment, lain_tile}
 use Rattle.czi_engine.specs.Tasks.{IsAllowed}
