@@ -24,7 +24,7 @@ use Rattle.czi_report.specs.Refusals.{cause_text}
 use Rattle.czi_report.specs.Replies.{no_line, ok_line}
 use Rattle.czi_report.specs.States.{list_of, info_of}
 use Rattle.czi_report.specs.Text.{check_text, items_text, map_text, text_line}
-use Rattle.czi_script.specs.Script.{Command, Add, Replace, Remove, Attach, Reattach, Detach, SetMeta, Region, Listing, Info, Map, Check, Past}
+use Rattle.czi_script.specs.Script.{Command, Add, Replace, Remove, Attach, Reattach, Detach, SetMeta, Undo, Region, Listing, Info, Map, Check, Past}
 use Rattle.czi_opening.proofs.Verdict.{one_cause}
 use Rattle.czi_engine.specs.declared.engine.Engine.{Engine}
 use Rattle.czi_engine.specs.Editing.{ShowsAlone}
@@ -119,6 +119,7 @@ tells_some (Attach info bytes) = tt
 tells_some (Reattach info bytes) = tt
 tells_some (Detach name) = tt
 tells_some (SetMeta xml tail) = tt
+tells_some Undo = tt
 tells_some (Region q) = λ s. region_some (region_refusal q s.document.subblocks) q s.document.subblocks
 tells_some Listing = λ s. zero-lt-suc _
 tells_some Info = λ s. zero-lt-suc _

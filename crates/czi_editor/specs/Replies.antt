@@ -3,14 +3,14 @@ use Rattle.std.specs.Prelude.{◌≡◌, ℕ, List, None, Result, Ok, Err}
 use Rattle.czi_engine.specs.Editing.{Goes, origin_by, state_by}
 use Rattle.czi_engine.specs.Standing.{Origin}
 use Rattle.czi_machine.specs.Edit.{Edit, Refusal, add, attach, detach, reattach, remove, replace, set_meta, too_long}
-use Rattle.czi_machine.specs.Machine.{after_edit}
+use Rattle.czi_machine.specs.Machine.{after_edit, after_undo}
 use Rattle.czi_machine.specs.State.{State}
 use Rattle.czi_report.specs.Replies.{no_line, ok_line}
 use Rattle.czi_report.specs.States.{list_of, info_of, map_of, check_of}
 use Rattle.czi_format.specs.Painting.{Query}
 use Rattle.czi_format.specs.PaintRefusals.{region_refusal}
 use Rattle.czi_editor.specs.Regions.{region_reply}
-use Rattle.czi_script.specs.Script.{Command, Add, Replace, Remove, Attach, Reattach, Detach, SetMeta, Region, Listing, Info, Map, Check, Past}
+use Rattle.czi_script.specs.Script.{Command, Add, Replace, Remove, Attach, Reattach, Detach, SetMeta, Undo, Region, Listing, Info, Map, Check, Past}
 
 -- What a command asks of the machine: to go on to another state, or to be told something of the one that there is.
 pub data Asked : Type 0 where
@@ -28,6 +28,7 @@ asked (Attach info bytes) = edits (attach (record { info = info; bytes = bytes }
 asked (Reattach info bytes) = edits (reattach (record { info = info; bytes = bytes }))
 asked (Detach name) = edits (detach name)
 asked (SetMeta xml tail) = edits (set_meta (record { xml = xml; tail = tail }))
+asked Undo = leads after_undo
 asked (Region q) = tells (λ s. region_reply q s.document.subblocks)
 asked Listing = tells (λ s. list_of s.document s.layout)
 asked Info = tells (λ s. info_of s.document s.layout)

@@ -9,7 +9,7 @@ ghost use Rattle.czi_machine.specs.Edit.{too_long};
 ghost use Rattle.czi_report.specs.Replies.{no_line};
 ghost use Rattle.czi_report.specs.States.{check_of};
 ghost use Rattle.czi_report.specs.Text.{info_text, list_text, map_text};
-ghost use Rattle.czi_script.specs.Script.{Add, Attach, Detach, Reattach, Remove, Replace, SetMeta};
+ghost use Rattle.czi_script.specs.Script.{Add, Attach, Detach, Reattach, Remove, Replace, SetMeta, Undo};
 ghost use Rattle.czi_space.specs.State.{space_of};
 ghost use Rattle.czi_doc.specs.QueryView.{query_of};
 ghost use Rattle.czi_tiles.specs.Grid.{IsGrid};
@@ -21,7 +21,7 @@ ghost use Rattle.czi_editor.specs.Performs.{Performs};
 
 use crate::painting::{Painting, begun, grid_of};
 use crate::refusal::stop_of;
-use crate::reply::{push_answer, take_room};
+use crate::reply::{push_answer, push_undone, take_room};
 use czi_doc::{AttInfo, Bytes, Dims, EntryInfo, Query};
 use czi_engine::Engine;
 use czi_report::{check, info, list, map, push_no_long};
@@ -167,6 +167,16 @@ fn set_meta<R: Rig>(
     take_room(reply)?;
     let answer = engine.set_meta(rig, xml.as_slice(), tail.as_slice());
     push_answer(answer, reply)
+}
+
+/// Undoes the last edit that isn't undone yet, and appends the reply.
+fn undo<R: Rig>(engine: &mut Engine, rig: &mut R, reply: &mut Vec<u8>) -> Result<(), EditorStop>
+    requires ready { IsReady engine.old (R.state rig.old) }
+    ensures { Performs R.Rig Undo rig.old rig.new engine.old engine.new reply.old.items reply.new.items result }
+{
+    take_room(reply)?;
+    let answer = engine.undo(rig);
+    push_undone(answer, reply)
 }
 
 /// Appends that a piece of a payload is past its limit.
@@ -334,6 +344,10 @@ impl Editor for ImageEditor {
             Command::SetMeta { xml, tail } => {
                 self.grid = None;
                 set_meta(&mut self.engine, rig, xml, tail, &mut self.reply)
+            }
+            Command::Undo => {
+                self.grid = None;
+                undo(&mut self.engine, rig, &mut self.reply)
             }
             Command::Region { query } => self.paint(query),
             Command::List => push_list(&self.engine, &mut self.reply),

@@ -4,13 +4,13 @@ ghost use Rattle.std.specs.Prelude.{◌≡◌, ◌+◌, ◌≤◌, ◌++◌, Som
 ghost use Rattle.czi_machine.specs.Edit.{Refusal};
 ghost use Rattle.czi_rig.specs.Faults.{fault_at};
 ghost use Rattle.czi_session.specs.Stops.{editor_device};
-ghost use Rattle.czi_engine.specs.Devices.{edit_device, edit_fault, refusal_of};
+ghost use Rattle.czi_engine.specs.Devices.{device_in, edit_device, edit_fault, refusal_in, refusal_of, undo_fault};
 ghost use Rattle.czi_report.specs.Replies.{no_line};
 ghost use Rattle.czi_editor.specs.Performs.{IsReplied};
 
-use czi_engine::EditError;
+use czi_engine::{EditError, UndoError};
 use czi_report::{
-    push_no_duplicate, push_no_full, push_no_key, push_no_long, push_no_many, push_ok,
+    push_no_duplicate, push_no_full, push_no_key, push_no_long, push_no_many, push_no_nothing, push_ok,
 };
 use czi_session::EditorStop;
 use std::alloc::AllocError;
@@ -51,6 +51,26 @@ pub(crate) fn push_no(error: &EditError, reply: &mut Vec<u8>) -> Result<(), Edit
     }
 }
 
+/// Appends the reply of an undo that was refused. A fault of a device is no refusal: it stops the run.
+pub(crate) fn push_not_undone(
+    error: &UndoError,
+    reply: &mut Vec<u8>,
+) -> Result<(), EditorStop>
+    ensures said { OnOk result ((refusal : Refusal) × (refusal_in (undo_fault error.now) ≡ Some refusal) × (reply.new.items ≡ reply.old.items ++ no_line refusal)) }
+    ensures device { fault_at editor_device result ≡ device_in (undo_fault error.now) }
+{
+    let pushed = match *error {
+        UndoError::Nothing => push_no_nothing(reply),
+        UndoError::Full { need, length } => push_no_full(need, length, reply),
+        UndoError::ImageDevice => return Err(EditorStop::Image),
+        UndoError::JournalDevice => return Err(EditorStop::Journal),
+    };
+    match pushed {
+        Ok(()) => Ok(()),
+        Err(AllocError) => Err(EditorStop::Memory),
+    }
+}
+
 /// Appends the reply to what an edit answered. Where it was accepted, the room that was taken suffices.
 pub(crate) fn push_answer(
     answer: Result<u64, EditError>,
@@ -65,5 +85,22 @@ pub(crate) fn push_answer(
             Err(AllocError) => unreachable!(),
         },
         Err(error) => push_no(&error, reply),
+    }
+}
+
+/// Appends the reply to what an undo answered. Where it was accepted, the room that was taken suffices.
+pub(crate) fn push_undone(
+    answer: Result<u64, UndoError>,
+    reply: &mut Vec<u8>,
+) -> Result<(), EditorStop>
+    requires room { vec_len reply.old + LONGEST_REPLY ≤ vec_capacity reply.old }
+    ensures { IsReplied undo_fault answer reply.old.items reply.new.items result }
+{
+    match answer {
+        Ok(number) => match push_ok(number, reply) {
+            Ok(()) => Ok(()),
+            Err(AllocError) => unreachable!(),
+        },
+        Err(error) => push_not_undone(&error, reply),
     }
 }

@@ -2,7 +2,7 @@
 
 ghost use Rattle.std.specs.Prelude.{◌≡◌, ◌≤◌, ◌+◌, ◌++◌, IsOk, OnOk, OnErr, vec_len, vec_capacity};
 ghost use Rattle.czi_doc.specs.Grows.{Grows};
-ghost use Rattle.czi_machine.specs.Edit.{duplicate, full, no_key, too_long, too_many};
+ghost use Rattle.czi_machine.specs.Edit.{duplicate, full, no_key, nothing, too_long, too_many};
 ghost use Rattle.czi_report.specs.Replies.{no_line, ok_line};
 
 use crate::text::{end_with_number, end_with_numbers};
@@ -34,6 +34,15 @@ pub fn push_no_key(out: &mut Vec<u8>) -> Result<(), AllocError>
     ensures err { OnErr result (Grows out.old.items out.new.items) }
 {
     out.extend_from_slice(b"no key\n")
+}
+
+/// Appends the reply of an undo where no edit is left that could be undone.
+#[tactic(auto, unfolding(crate::specs::Replies::no_line))]
+pub fn push_no_nothing(out: &mut Vec<u8>) -> Result<(), AllocError>
+    ensures ok { OnOk result (out.new.items ≡ out.old.items ++ no_line nothing) }
+    ensures err { OnErr result (Grows out.old.items out.new.items) }
+{
+    out.extend_from_slice(b"no nothing\n")
 }
 
 /// Appends the reply of an edit that adds an item whose key the item at this place has. The first place is 0.
