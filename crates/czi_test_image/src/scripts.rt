@@ -103,7 +103,7 @@ static SCRIPTS: [Row; 62] = [
     (b"remove dims=C0,\n", 0, Some(Kind::Value)),
     (b"remove dims=C0\r\n", 0, Some(Kind::Value)),
     (b"remove dims=C2147483648\n", 0, Some(Kind::Value)),
-    (b"undo\n", 0, Some(Kind::Later)),
+    (b"undo\nundo x=1\n", 1, Some(Kind::Field)),
     (b"list\nrepack data=8\nlist", 1, Some(Kind::Later)),
     (b"region  x=\n", 0, Some(Kind::Field)),
     (b"adds\n", 0, Some(Kind::Word)),
@@ -230,7 +230,7 @@ static SCRIPTS: [Row; 62] = [
 ];
 
 // The command words of the format that aren't built.
-static WORDS: [&str; 2] = ["undo", "repack"];
+static WORDS: [&str; 1] = ["repack"];
 
 // How long a line is, whether a line feed follows, and what kind of fault it is.
 static LINES: [(usize, bool, Kind); 5] = [

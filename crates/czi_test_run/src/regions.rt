@@ -67,7 +67,8 @@ fn push_line(line: &mut Vec<u8>, fields: &[&str]) -> Result<(), AllocError> {
         line.push(b' ')?;
         line.extend_from_slice(field.as_bytes())?;
     }
-    line.push(b'\n')
+    line.push(b'\n')?;
+    Ok(())
 }
 
 // The words that ask for it.
@@ -102,7 +103,11 @@ fn check_words(
     Ok(())
 }
 
-fn check_row(rt: &impl Abort, alloc: Global, (adds, added, fields, reply): &Row) -> Result<(), Fail> {
+fn check_row(
+    rt: &impl Abort,
+    alloc: Global,
+    (adds, added, fields, reply): &Row,
+) -> Result<(), Fail> {
     let mut said = Vec::from_slice(alloc, added)?;
     said.extend_from_slice(reply)?;
     let script = script_of(alloc, adds, fields)?;
@@ -189,7 +194,13 @@ fn other_fields_get_the_usage_line(rt: HostRuntime) -> Result<(), Fail> {
         let words = words_of(rt.alloc(), fields)?;
         check_usage(&rt, rt.alloc(), &words)?;
     }
-    check_usage(&rt, rt.alloc(), &["F", "Region", "pixel=0", "layer=1", "x=0", "y=0", "w=4", "h=2"])
+    check_usage(
+        &rt,
+        rt.alloc(),
+        &[
+            "F", "Region", "pixel=0", "layer=1", "x=0", "y=0", "w=4", "h=2",
+        ],
+    )
 }
 
 const FOUR_BY_TWO: &[&str] = &["pixel=0", "layer=1", "x=0", "y=0", "w=4", "h=2"];
@@ -198,7 +209,13 @@ const FOUR_BY_TWO: &[&str] = &["pixel=0", "layer=1", "x=0", "y=0", "w=4", "h=2"]
 fn words_of_a_region_on_a_refused_image(rt: HostRuntime) -> Result<(), Fail> {
     let alloc = rt.alloc();
     let pending = one_tile(alloc, 1280, &[(UPDATE_PENDING, &[1])])?;
-    check_words(&rt, alloc, &pending, FOUR_BY_TWO, (2, b"refused pending 1\n"))?;
+    check_words(
+        &rt,
+        alloc,
+        &pending,
+        FOUR_BY_TWO,
+        (2, b"refused pending 1\n"),
+    )?;
     check_words(&rt, alloc, b"", FOUR_BY_TWO, (2, b"refused notczi\n"))
 }
 

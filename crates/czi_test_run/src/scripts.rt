@@ -34,7 +34,7 @@ pub(crate) fn one_tile_rig(alloc: Global, failing: u64) -> Result<MemRig, AllocE
 }
 
 // Scripts, the status and what is said, how long the journal is then, and what `info` says.
-static SCRIPTS: [(&[u8], u8, &[u8], usize, &[u8]); 12] = [
+static SCRIPTS: [(&[u8], u8, &[u8], usize, &[u8]); 14] = [
     (SCRIPT, 0, REPLIES, 1, REMOVED),
     (
         b"remove dims=C0,X0:4,Y0:2\nmap\ncheck\n",
@@ -73,7 +73,15 @@ static SCRIPTS: [(&[u8], u8, &[u8], usize, &[u8]); 12] = [
         1,
         REMOVED,
     ),
-    (b"undo\n", 3, b"script 1 later\n", 0, ONE),
+    (b"undo\n", 0, b"no nothing\n", 0, ONE),
+    (
+        b"remove dims=C0,X0:4,Y0:2\nundo\nundo\nmap\n",
+        0,
+        b"ok 1\nok 2\nno nothing\nlength 1280\nruns 1\nrun 544 160\nheld 0\n",
+        1,
+        ONE,
+    ),
+    (b"repack\n", 3, b"script 1 later\n", 0, ONE),
     (b"list", 3, b"script 1 cut\n", 0, ONE),
     (
         b"remove dims=C0,X0:4,Y0:2\nbad\n",

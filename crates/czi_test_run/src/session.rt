@@ -40,7 +40,7 @@ static SCRIPTS: [(&[u8], Want); 7] = [
     (b"list\nremove dims=C0\ninfo\n", (Ended::Done, b"ok\nok\nok\n", 5)),
     (b"list\nlost\nlist\n", (Ended::Stopped(Stop::Script(2, Kind::Word)), b"ok\nscript 2 word\n", 3)),
     (b"list\ninfo\ninfo x=1\n", (Ended::Stopped(Stop::Script(3, Kind::Field)), b"ok\nok\nscript 3 field\n", 4)),
-    (b"undo\n", (Ended::Stopped(Stop::Script(1, Kind::Later)), b"script 1 later\n", 2)),
+    (b"repack\n", (Ended::Stopped(Stop::Script(1, Kind::Later)), b"script 1 later\n", 2)),
     (b"list\nlis", (Ended::Stopped(Stop::Script(2, Kind::Cut)), b"ok\nscript 2 cut\n", 3)),
 ];
 
