@@ -38,7 +38,7 @@ def main():
     firsts = [word for row in rows for word in re.findall(r"`([^`]*)`", row[0])]
     words = {
         "commands": ({line.split()[2] for line in readme.splitlines() if line.startswith("    czi_tool FILE ")}, section(man, "COMMANDS")),
-        "script lines": ({first.split()[0] for first in firsts if re.match(r"(add|replace|remove|attach|reattach|detach|meta|region|list|info|map|check)\b", first)}, section(man, "SCRIPTS")),
+        "script lines": ({first.split()[0] for first in firsts if re.match(r"(add|replace|remove|attach|reattach|detach|meta|undo|region|list|info|map|check)\b", first)}, section(man, "SCRIPTS")),
         "replies": ({" ".join(reply.split()[:2]) if reply.startswith("no ") else "ok" for reply in re.findall(r"`((?:ok|no) [A-Za-z ]*)`", readme)}, section(man, "REPLIES")),
         "refusals": ({" ".join(first.split()[:2]) for first in firsts if first.startswith("refused ")}, section(man, "REFUSALS")),
         "statuses": ({s.strip() for row in rows if re.fullmatch(r"[\d, ]+", row[0].strip()) for s in row[0].split(",")}, section(man, "EXIT STATUS")),

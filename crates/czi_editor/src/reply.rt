@@ -97,7 +97,7 @@ pub(crate) fn push_undone(
     ensures { IsReplied undo_fault answer reply.old.items reply.new.items result }
 {
     match answer {
-        Ok(number) => match push_ok(number, reply) {
+        Ok(count) => match push_ok(count, reply) {
             Ok(()) => Ok(()),
             Err(AllocError) => unreachable!(),
         },

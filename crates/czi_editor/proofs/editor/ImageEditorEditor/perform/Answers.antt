@@ -92,6 +92,18 @@ returns-in-SetMeta-clause-still g c = rw c.in-SetMeta.is c.set_meta.ensures.stil
 pub returns-in-SetMeta-clause-ready : goal.returns-in-SetMeta-clause-ready
 returns-in-SetMeta-clause-ready g c = engine_goes c.set_meta.result _ _ refl refl c.set_meta.ensures.ready
 
+pub returns-in-Undo-clause-moments : goal.returns-in-Undo-clause-moments
+returns-in-Undo-clause-moments g c = rw c.in-Undo.is c.undo.ensures.moments
+
+pub returns-in-Undo-clause-ok : goal.returns-in-Undo-clause-ok
+returns-in-Undo-clause-ok g c = rw c.in-Undo.is (performed_whole c.clear.ensures.items c.undo.ensures)
+
+pub returns-in-Undo-clause-still : goal.returns-in-Undo-clause-still
+returns-in-Undo-clause-still g c = rw c.in-Undo.is c.undo.ensures.still
+
+pub returns-in-Undo-clause-ready : goal.returns-in-Undo-clause-ready
+returns-in-Undo-clause-ready g c = engine_goes c.undo.result _ _ refl refl c.undo.ensures.ready
+
 pub returns-in-List-clause-ok : goal.returns-in-List-clause-ok
 returns-in-List-clause-ok g c = rw c.in-List.is (on_ok_weaker c.push_list.result (λ says said b h. (
   in_one b _ _ _ c.clear.ensures.items (
