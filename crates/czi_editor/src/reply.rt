@@ -10,7 +10,8 @@ ghost use Rattle.czi_editor.specs.Performs.{IsReplied};
 
 use czi_engine::{EditError, UndoError};
 use czi_report::{
-    push_no_duplicate, push_no_full, push_no_key, push_no_long, push_no_many, push_no_nothing, push_ok,
+    push_no_duplicate, push_no_full, push_no_key, push_no_long, push_no_many, push_no_nothing,
+    push_ok,
 };
 use czi_session::EditorStop;
 use std::alloc::AllocError;
@@ -52,10 +53,7 @@ pub(crate) fn push_no(error: &EditError, reply: &mut Vec<u8>) -> Result<(), Edit
 }
 
 /// Appends the reply of an undo that was refused. A fault of a device is no refusal: it stops the run.
-pub(crate) fn push_not_undone(
-    error: &UndoError,
-    reply: &mut Vec<u8>,
-) -> Result<(), EditorStop>
+pub(crate) fn push_not_undone(error: &UndoError, reply: &mut Vec<u8>) -> Result<(), EditorStop>
     ensures said { OnOk result ((refusal : Refusal) × (refusal_in (undo_fault error.now) ≡ Some refusal) × (reply.new.items ≡ reply.old.items ++ no_line refusal)) }
     ensures device { fault_at editor_device result ≡ device_in (undo_fault error.now) }
 {

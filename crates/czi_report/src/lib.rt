@@ -23,6 +23,7 @@ pub use listing::list;
 pub use pnm::{pnm_head, pnm_row};
 pub use refusal::{push_cause, push_not_empty};
 pub use reply::{
-    push_no_duplicate, push_no_full, push_no_key, push_no_long, push_no_many, push_no_nothing, push_ok,
+    push_no_duplicate, push_no_full, push_no_key, push_no_long, push_no_many, push_no_nothing,
+    push_ok,
 };
 pub use space::map;
